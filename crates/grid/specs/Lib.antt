@@ -1,0 +1,5 @@
+pub mod Refusals
+pub mod Points
+pub mod Cells
+pub mod Cases
+pub mod Shapes

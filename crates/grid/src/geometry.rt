@@ -1,0 +1,30 @@
+// A grid point.
+#[derive(Clone, Copy, PartialEq, Eq, Debug)]
+pub struct Point {
+    pub x: u8,
+    pub y: u8,
+    pub z: u8,
+}
+
+// A grid edge: its lower end, and its direction, 1 to 7, whose bits 0, 1 and 2 say whether the upper end lies one further along
+// x, y and z.
+#[derive(Clone, Copy, PartialEq, Eq, Debug)]
+pub struct GridEdge {
+    pub low: Point,
+    pub direction: u8,
+}
+
+// Three corners, in the order in which a triangle runs round.
+#[derive(Clone, Copy, PartialEq, Eq, Debug)]
+pub struct Triangle<T> {
+    pub a: T,
+    pub b: T,
+    pub c: T,
+}
+
+// The edge of a tetrahedron between its corners at two positions, the lower first.
+#[derive(Clone, Copy, PartialEq, Eq, Debug)]
+pub struct TetEdge {
+    pub low: u8,
+    pub high: u8,
+}
