@@ -1,7 +1,7 @@
 -- Cells, their six tetrahedra, and the triangles that the case table gives them.
 use mathlib.Core.Bool.{Bool, true, false, cond}
 use mathlib.Core.List.{List, [], _∷_, _++_, map}
-use Prim.Native.Nat.{ℕ, zero, suc, _+_, _-_, _*_, _/_, _%_}
+use Prim.Native.Nat.{ℕ, zero, suc, _+_, _-_, _*_, _/_, _%_, _≤_}
 use lib.Dec.{ltb}
 use lib.ListN.{getD}
 use Rattle.std.specs.shelf.Lists.{joined}
@@ -21,6 +21,12 @@ cell-number s b = b .x + (s .nx + 1) * (b .y + (s .ny + 1) * b .z)
 
 abbrev pub cell-base : Sides → ℕ → Point
 cell-base s n = record { x = n % (s .nx + 1); y = n / (s .nx + 1) % (s .ny + 1); z = n / (s .nx + 1) / (s .ny + 1) }
+
+-- the bases of the grid's cells
+pub record Base (s : Sides) (b : Point) : Type 0 where
+  pub x : b .x ≤ s .nx
+  pub y : b .y ≤ s .ny
+  pub z : b .z ≤ s .nz
 
 -- the corner codes of the tetrahedra at their positions 0 to 3
 unfoldable pub tetrahedra : List (List ℕ)

@@ -1,7 +1,9 @@
+mod bounds;
+mod cells;
 mod geometry;
 mod refusals;
 mod shapes;
-
+pub use cells::Cell;
 pub use geometry::GridEdge;
 pub use geometry::GridEdgeDebug;
 pub use geometry::GridEdgePartialEq;
