@@ -1,1 +1,5 @@
+pub mod Below
 pub mod Numbers
+pub mod Rows
+pub mod Writes
+pub mod Patterns

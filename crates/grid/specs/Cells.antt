@@ -10,7 +10,7 @@ use Rattle.grid.specs.declared.geometry.GridEdge.{GridEdge}
 use Rattle.grid.specs.declared.geometry.Triangle.{Triangle}
 use Rattle.grid.specs.declared.geometry.TetEdge.{TetEdge}
 use Rattle.grid.specs.Points.{Sides, _⊕_, offset, crossed}
-use Rattle.grid.specs.Cases.{row}
+use Rattle.grid.specs.Cases.{low-position, high-position, row}
 
 -- how many cells a grid has, the number of the cell at a base, and the base of the cell of a number
 abbrev pub cell-count : Sides → ℕ
@@ -53,7 +53,7 @@ vertex B t m = B ⊕ offset (corner t m)
 
 -- the grid edge between two of its corners
 unfoldable pub edge : Point → ℕ → TetEdge → GridEdge
-edge B t mn = record { low = vertex B t (mn .low); direction = corner t (mn .high) - corner t (mn .low) }
+edge B t mn = record { low = vertex B t (low-position mn); direction = corner t (high-position mn) - corner t (low-position mn) }
 
 unfoldable pub value : Bool → ℕ
 value true = 1

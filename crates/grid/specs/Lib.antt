@@ -3,3 +3,5 @@ pub mod Points
 pub mod Cells
 pub mod Cases
 pub mod Shapes
+pub mod Patterns
+pub mod Table

@@ -27,7 +27,11 @@ impl Shape {
         if nz < 1 || nz > 254 {
             return Err(Refusal::Side(2));
         }
-        Ok(Shape { nx: nx as u8, ny: ny as u8, nz: nz as u8 })
+        Ok(Shape {
+            nx: nx as u8,
+            ny: ny as u8,
+            nz: nz as u8,
+        })
     }
 
     // Whether a point has a sample: it is neither on the border nor beyond.
@@ -56,7 +60,13 @@ impl Shape {
         let x = number % row;
         let y = number / row % column;
         let z = number / row / column;
-        Some(Cell { base: Point { x: x as u8, y: y as u8, z: z as u8 } })
+        Some(Cell {
+            base: Point {
+                x: x as u8,
+                y: y as u8,
+                z: z as u8,
+            },
+        })
     }
 
     // Why a volume of another shape is refused, if it is of another.

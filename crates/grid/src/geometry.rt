@@ -22,9 +22,20 @@ pub struct Triangle<T> {
     pub c: T,
 }
 
-// The edge of a tetrahedron between its corners at two positions, the lower first.
+// An edge of a tetrahedron, by the positions of its two corners.
 #[derive(Clone, Copy, PartialEq, Eq, Debug)]
-pub struct TetEdge {
-    pub low: u8,
-    pub high: u8,
+pub enum TetEdge {
+    E01,
+    E02,
+    E03,
+    E12,
+    E13,
+    E23,
+}
+
+// An edge of a cell: from the corner of a code in a direction.
+#[derive(Clone, Copy)]
+pub struct Span {
+    pub corner: u8,
+    pub direction: u8,
 }

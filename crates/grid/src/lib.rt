@@ -1,8 +1,10 @@
 mod bounds;
 mod cells;
 mod geometry;
+mod marching;
 mod refusals;
 mod shapes;
+
 pub use cells::Cell;
 pub use geometry::GridEdge;
 pub use geometry::GridEdgeDebug;
@@ -10,10 +12,12 @@ pub use geometry::GridEdgePartialEq;
 pub use geometry::Point;
 pub use geometry::PointDebug;
 pub use geometry::PointPartialEq;
+pub use geometry::Span;
 pub use geometry::TetEdge;
 pub use geometry::Triangle;
 pub use geometry::TriangleDebug;
 pub use geometry::TrianglePartialEq;
+pub use marching::CellTriangles;
 pub use refusals::Code;
 pub use refusals::Refusal;
 pub use refusals::RefusalDebug;
