@@ -5,3 +5,4 @@ pub mod Cases
 pub mod Shapes
 pub mod Patterns
 pub mod Table
+pub mod GridTriangles

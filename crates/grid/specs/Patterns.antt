@@ -37,8 +37,11 @@ flag-triangles flags B = joined (flag-tet flags B) six
 abbrev span : ℕ → ℕ → Span
 span c d = record { corner = c; direction = d }
 
+abbrev pub no-span : Span
+no-span = span 0 0
+
 -- the nineteen edges of a cell: from each corner in each direction that stays in the cell
-unfoldable pub spans : List Span
+abbrev pub spans : List Span
 spans =
     span 0 1 ∷ span 0 2 ∷ span 0 3 ∷ span 0 4 ∷ span 0 5 ∷ span 0 6 ∷ span 0 7 ∷ span 1 2 ∷ span 1 4 ∷ span 1 6 ∷ span 2 1 ∷ span 2 4 ∷ span 2 5
     ∷ span 3 4 ∷ span 4 1 ∷ span 4 2 ∷ span 4 3 ∷ span 5 2 ∷ span 6 1 ∷ []

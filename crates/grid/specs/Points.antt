@@ -50,11 +50,12 @@ in-grid s p = leb (p .x) (s .nx + 1) && (leb (p .y) (s .ny + 1) && leb (p .z) (s
 abbrev pub on-border : Sides → Point → Bool
 on-border s p = in-grid s p && cond (at-end (s .nx) (p .x)) true (cond (at-end (s .ny) (p .y)) true (at-end (s .nz) (p .z)))
 
--- one end of the edge is inside, and the other is not
-unfoldable pub differ : Bool → Bool → Bool
+-- exactly one of two
+abbrev pub differ : Bool → Bool → Bool
 differ true b = not b
 differ false b = b
 
+-- one end of the edge is inside, and the other is not
 unfoldable pub crossed : (Point → Bool) → GridEdge → Bool
 crossed inside e = differ (inside (e .low)) (inside (top e))
 

@@ -9,6 +9,7 @@ use Rattle.grid.specs.declared.refusals.Refusal.{Refusal}
 use Rattle.grid.specs.declared.refusals.Refusal.the-variants.{Side, OtherShape}
 use Rattle.grid.specs.declared.shapes.Shape.{Shape}
 use Rattle.grid.specs.declared.cells.Cell.{Cell}
+use Rattle.grid.specs.declared.geometry.Point.{Point}
 use Rattle.grid.specs.Points.{Sides}
 use Rattle.grid.specs.Cells.{cell-count, cell-number, cell-base, Base}
 
@@ -34,3 +35,8 @@ shapes-refusal s t = cond (eqb (s .nx) (t .nx)) (cond (eqb (s .ny) (t .ny)) (con
 abbrev pub CellAt : Sides → ℕ → Option Cell → Type 0
 CellAt s n None = cell-count s ≤ n
 CellAt s n (Some c) = (n < cell-count s) × (c .base ≡ cell-base s n) × Base s (c .base) × (cell-number s (c .base) ≡ n)
+
+-- the number of the cell at a base, or there is none
+abbrev pub NumberOf : Sides → Point → Option ℕ → Type 0
+NumberOf s b (Some n) = Base s b × (n ≡ cell-number s b)
+NumberOf s b None = Base s b → ⊥

@@ -39,3 +39,11 @@ pub struct Span {
     pub corner: u8,
     pub direction: u8,
 }
+
+// A grid triangle: its lowest corner, and the codes of the steps to the other two.
+#[derive(Clone, Copy, PartialEq, Eq, Debug)]
+pub struct GridTriangle {
+    pub low: Point,
+    pub a: u8,
+    pub b: u8,
+}

@@ -8,7 +8,7 @@ ghost use Rattle.grid.specs.Points.{_⊕_, offset};
 ghost use Rattle.grid.specs.Cells.{corner as corner-code, odd as odd-tet, edge, placed};
 ghost use Rattle.grid.specs.Cases.{low-position, high-position, rows, row, no-case};
 ghost use Rattle.grid.specs.Table.{table-row};
-ghost use Rattle.grid.specs.Patterns.{flag-mask, flag-triangles, flag-edges};
+ghost use Rattle.grid.specs.Patterns.{flag-mask, flag-triangles, flag-edges, spans, no-span, span-crossed};
 use crate::cells::Cell;
 use crate::geometry::GridEdge;
 use crate::geometry::Point;
@@ -357,5 +357,134 @@ impl Cell {
             count = emit(&mut items, count, self, t, tet_mask(inside, t));
         }
         CellTriangles { items, count }
+    }
+}
+
+// The nineteen edges of a cell: from each corner in each direction that stays in the cell.
+const SPANS: [Span; 19] = [
+    Span {
+        corner: 0,
+        direction: 1,
+    },
+    Span {
+        corner: 0,
+        direction: 2,
+    },
+    Span {
+        corner: 0,
+        direction: 3,
+    },
+    Span {
+        corner: 0,
+        direction: 4,
+    },
+    Span {
+        corner: 0,
+        direction: 5,
+    },
+    Span {
+        corner: 0,
+        direction: 6,
+    },
+    Span {
+        corner: 0,
+        direction: 7,
+    },
+    Span {
+        corner: 1,
+        direction: 2,
+    },
+    Span {
+        corner: 1,
+        direction: 4,
+    },
+    Span {
+        corner: 1,
+        direction: 6,
+    },
+    Span {
+        corner: 2,
+        direction: 1,
+    },
+    Span {
+        corner: 2,
+        direction: 4,
+    },
+    Span {
+        corner: 2,
+        direction: 5,
+    },
+    Span {
+        corner: 3,
+        direction: 4,
+    },
+    Span {
+        corner: 4,
+        direction: 1,
+    },
+    Span {
+        corner: 4,
+        direction: 2,
+    },
+    Span {
+        corner: 4,
+        direction: 3,
+    },
+    Span {
+        corner: 5,
+        direction: 2,
+    },
+    Span {
+        corner: 6,
+        direction: 1,
+    },
+];
+
+// The crossed edges of a cell: the first `count` of `items`.
+#[derive(Clone, Copy)]
+pub struct CellEdges {
+    pub items: [GridEdge; 19],
+    pub count: usize,
+}
+
+// The edge i of a cell.
+fn span_at(i: usize) -> Span
+    requires { ⌜ i < 19 ⌝ }
+    ensures value { λ r. ⌜ r ≡ getD spans i no-span ⌝ }
+    ensures stays { λ r. ⌜ r .corner + r .direction ≤ 7 ⌝ }
+{
+    SPANS[i]
+}
+
+// Whether one end of an edge of a cell is inside and the other is not.
+fn is_crossed(inside: &[bool; 8], span: Span) -> bool
+    requires { ⌜ span .corner + span .direction ≤ 7 ⌝ }
+    ensures { λ r. ⌜ r ≡ span-crossed (now (inside .entry)) span ⌝ }
+{
+    let low = inside[span.corner as usize];
+    let high = inside[(span.corner + span.direction) as usize];
+    if low { !high } else { high }
+}
+
+impl Cell {
+    // The edges of the cell that are crossed where these of its corners are inside.
+    pub fn crossed_edges(self, inside: &[bool; 8]) -> CellEdges
+        ensures value { λ r. ⌜ take (r .count) (r .items) ≡ flag-edges (now (inside .entry)) (self .base) ⌝ }
+        ensures count { λ r. ⌜ r .count ≡ length (flag-edges (now (inside .entry)) (self .base)) ⌝ }
+        ensures few { λ r. ⌜ r .count ≤ 19 ⌝ }
+    {
+        let mut items = [NO_EDGE; 19];
+        let mut count = 0;
+        for i in 0..19 {
+            let span = span_at(i);
+            if is_crossed(inside, span) {
+                items[count] = GridEdge {
+                    low: self.corner(span.corner),
+                    direction: span.direction,
+                };
+                count += 1;
+            }
+        }
+        CellEdges { items, count }
     }
 }
