@@ -16,7 +16,7 @@ use Rattle.std.proofs.shelf.Tests.{eqb-true, leb-true, and-parts, cases-bool}
 use Rattle.grid.specs.declared.geometry.Point.{Point}
 use Rattle.grid.specs.Points.{_⊕_, offset, top, differ, crossed}
 use Rattle.grid.specs.Cells.{tetrahedra, corner, vertex, mask, cell-edges, tet-triangles, cell-triangles}
-use Rattle.grid.specs.Patterns.{six, spans, no-span, span-edge, span-crossed, corner-flags, flag, flag-mask, flag-tet, flag-triangles, flag-edges}
+use Rattle.grid.specs.Patterns.{six, codes, spans, no-span, span-edge, span-crossed, corner-flags, flag, flag-mask, flag-tet, flag-triangles, flag-edges}
 use Rattle.grid.proofs.Below.{below, below-at}
 
 pub six-at : (t : ℕ) → t < 6 → getD six t 0 ≡ t
@@ -78,12 +78,13 @@ span-top B i h =
     (add-assoc (B .y) (c / 2 % 2) (d / 2 % 2) ∙ ap (λ (n : ℕ). B .y + n) (eqb-true (c / 2 % 2 + d / 2 % 2) ((c + d) / 2 % 2) (q .0)))
     (add-assoc (B .z) (c / 4 % 2) (d / 4 % 2) ∙ ap (λ (n : ℕ). B .z + n) (eqb-true (c / 4 % 2 + d / 4 % 2) ((c + d) / 4 % 2) (q .1)))
 
+pub code-at : (c : ℕ) → c < 8 → getD codes c 0 ≡ c
+code-at c h = eqb-true (getD codes c 0) c (below-at (λ k. eqb (getD codes k 0) k) 8 refl c h)
+
 -- the flag of a corner
 pub flag-at : (inside : Point → Bool) (B : Point) (c : ℕ) → c < 8 → flag (corner-flags inside B) c ≡ inside (B ⊕ offset c)
 unfolding corner-flags
-flag-at inside B c h =
-    getD-map (λ (n : ℕ). inside (B ⊕ offset n)) (0 ∷ 1 ∷ 2 ∷ 3 ∷ 4 ∷ 5 ∷ 6 ∷ 7 ∷ []) c 0 false h
-    ∙ ap (λ (n : ℕ). inside (B ⊕ offset n)) (eqb-true (getD (0 ∷ 1 ∷ 2 ∷ 3 ∷ 4 ∷ 5 ∷ 6 ∷ 7 ∷ []) c 0) c (below-at (λ k. eqb (getD (0 ∷ 1 ∷ 2 ∷ 3 ∷ 4 ∷ 5 ∷ 6 ∷ 7 ∷ []) k 0) k) 8 refl c h))
+flag-at inside B c h = getD-map (λ (n : ℕ). inside (B ⊕ offset n)) codes c 0 false h ∙ ap (λ (n : ℕ). inside (B ⊕ offset n)) (code-at c h)
 
 pub edges-listed : (B : Point) → cell-edges B ≡ map (span-edge B) spans
 unfolding cell-edges

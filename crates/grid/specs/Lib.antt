@@ -6,3 +6,4 @@ pub mod Shapes
 pub mod Patterns
 pub mod Table
 pub mod GridTriangles
+pub mod EdgeKeys

@@ -13,9 +13,13 @@ use Rattle.grid.specs.Points.{_⊕_, offset, differ}
 use Rattle.grid.specs.Cells.{corner, odd, pack, placed}
 use Rattle.grid.specs.Cases.{row}
 
+-- the corner codes
+abbrev pub codes : List ℕ
+codes = 0 ∷ 1 ∷ 2 ∷ 3 ∷ 4 ∷ 5 ∷ 6 ∷ 7 ∷ []
+
 -- which of the corners 0 to 7 of the cell at B are inside
 unfoldable pub corner-flags : (Point → Bool) → Point → List Bool
-corner-flags inside B = map (λ c. inside (B ⊕ offset c)) (0 ∷ 1 ∷ 2 ∷ 3 ∷ 4 ∷ 5 ∷ 6 ∷ 7 ∷ [])
+corner-flags inside B = map (λ c. inside (B ⊕ offset c)) codes
 
 abbrev pub flag : List Bool → ℕ → Bool
 flag flags c = getD flags c false

@@ -1,5 +1,6 @@
 -- Grid points, grid edges and their numbers.
 use mathlib.Core.Bool.{Bool, true, false, cond, _&&_, not}
+use mathlib.Core.Logic.{_⊎_}
 use mathlib.Core.Path.{_≡_}
 use Prim.Native.Nat.{ℕ, _+_, _*_, _/_, _%_, _≤_, _<_}
 use lib.Dec.{leb, eqb}
@@ -25,6 +26,11 @@ offset c = record { x = c % 2; y = c / 2 % 2; z = c / 4 % 2 }
 -- the upper end of a grid edge
 unfoldable pub top : GridEdge → Point
 top e = e .low ⊕ offset (e .direction)
+
+-- the upper end as three numbers of 8 bits, or one of them is too large
+abbrev pub TopAnswer : GridEdge → Option Point → Type 0
+TopAnswer e (Some p) = p ≡ top e
+TopAnswer e None = (256 ≤ top e .x) ⊎ ((256 ≤ top e .y) ⊎ (256 ≤ top e .z))
 
 -- the number of a point
 abbrev pub point-number : Point → ℕ

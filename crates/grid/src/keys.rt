@@ -2,7 +2,7 @@ ghost use mathlib.Core.Path.{_≡_};
 ghost use Prim.Native.Nat.{ℕ, _+_, _*_, _≤_, _<_};
 ghost use Rattle.std.specs.Options.{Cases as BySome};
 ghost use Rattle.std.specs.declared.option.Option.the-variants.{Some, None};
-ghost use Rattle.grid.specs.Points.{point-number, on-border, edge-key, edge-of, Keyed, Keys-differ};
+ghost use Rattle.grid.specs.Points.{point-number, on-border, edge-key, edge-of, TopAnswer, Keyed, Keys-differ};
 ghost use Rattle.grid.specs.Shapes.{sides, NumberOf};
 ghost use Rattle.grid.specs.GridTriangles.{TriangleAnswer};
 use crate::geometry::GridEdge;
@@ -26,6 +26,24 @@ impl GridEdge {
         ensures apart { λ _. ⌜ Keys-differ ⌝ }
     {
         8 * self.low.number() + u32::from(self.direction)
+    }
+
+    // The upper end, where its coordinates have 8 bits.
+    pub fn top(self) -> Option<Point>
+        ensures { λ r. ⌜ TopAnswer self r ⌝ }
+    {
+        let x = self.low.x as u16 + (self.direction % 2) as u16;
+        let y = self.low.y as u16 + (self.direction / 2 % 2) as u16;
+        let z = self.low.z as u16 + (self.direction / 4 % 2) as u16;
+        if x < 256 && y < 256 && z < 256 {
+            Some(Point {
+                x: x as u8,
+                y: y as u8,
+                z: z as u8,
+            })
+        } else {
+            None
+        }
     }
 
     // The edge of a key, where a number is one.

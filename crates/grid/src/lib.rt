@@ -1,5 +1,6 @@
 mod bounds;
 mod cells;
+mod edge_keys;
 mod geometry;
 mod keys;
 mod marching;
@@ -7,6 +8,7 @@ mod refusals;
 mod shapes;
 
 pub use cells::Cell;
+pub use edge_keys::GridEdgeKey;
 pub use geometry::GridEdge;
 pub use geometry::GridEdgeDebug;
 pub use geometry::GridEdgePartialEq;

@@ -1,0 +1,4 @@
+pub mod Seeks
+pub mod Laws
+pub mod Frees
+pub mod Lookups

@@ -1,0 +1,3 @@
+pub mod Probe
+pub mod Law
+pub mod Frees

@@ -1,0 +1,6 @@
+pub mod Answers
+pub mod Rooms
+pub mod Ties
+pub mod States
+pub mod Marches
+pub mod Views

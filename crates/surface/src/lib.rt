@@ -1,0 +1,8 @@
+mod answers;
+mod needs;
+mod records;
+mod surfaces;
+
+pub use needs::Need;
+pub use records::Records;
+pub use surfaces::Surface;

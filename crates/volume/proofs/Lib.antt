@@ -1,0 +1,4 @@
+pub mod Stored
+mod Crossings
+mod ShortTables
+mod Runs

@@ -1,0 +1,4 @@
+pub mod Borders
+pub mod Files
+pub mod Kinds
+pub mod Volumes
