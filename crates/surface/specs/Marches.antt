@@ -49,9 +49,9 @@ need inside es B = record { vertices = countBy (wanting inside es) (cell-edges B
 -- why a need is refused: free entries, vertex records and triangle records, in this order
 abbrev pub room-refusal : Tables → Need → ℕ → Option Refusal
 room-refusal s n cell =
-    cond (leb (n .vertices) (free (s .entries)))
-    (cond (leb (n .vertices) (room-left (length (s .vertices)) (s .vertex-count)))
-    (cond (leb (n .triangles) (room-left (length (s .triangles)) (s .triangle-count))) None (Some (TriangleRoom cell)))
+    cond (leb (n .vertices) (free (s .numbered .entries)))
+    (cond (leb (n .vertices) (room-left (length (s .numbered .vertices)) (s .numbered .count)))
+    (cond (leb (n .triangles) (room-left (length (s .triangles)) (s .count))) None (Some (TriangleRoom cell)))
     (Some (VertexRoom cell)))
     (Some (EntryRoom cell))
 
@@ -72,7 +72,7 @@ else-by None o = o
 unfoldable pub march-refusal : Field → State → ℕ → Option Refusal
 march-refusal f s cell =
     else-by (shapes-refusal (s .sides) (f .sides))
-    (else-by (cell-refusal s cell) (room-refusal (s .tables) (need (f .inside) (s .tables .entries) (cell-base (s .sides) cell)) cell))
+    (else-by (cell-refusal s cell) (room-refusal (s .tables) (need (f .inside) (s .tables .numbered .entries) (cell-base (s .sides) cell)) cell))
 
 -- the surface after an accepted march
 unfoldable pub marched : Field → State → ℕ → State
@@ -87,6 +87,6 @@ abbrev pub March : Field → State → ℕ → Result Need Refusal → State →
 March f s cell (Err e) t = (march-refusal f s cell ≡ Some e) × (t ≡ s)
 March f s cell (Ok n) t =
     (march-refusal f s cell ≡ None)
-    × (n ≡ need (f .inside) (s .tables .entries) (cell-base (s .sides) cell))
+    × (n ≡ need (f .inside) (s .tables .numbered .entries) (cell-base (s .sides) cell))
     × (t ≡ marched f s cell)
-    × (t .tables .vertex-count ≡ s .tables .vertex-count + n .vertices)
+    × (t .tables .numbered .count ≡ s .tables .numbered .count + n .vertices)

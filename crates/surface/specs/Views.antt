@@ -2,12 +2,12 @@
 use denote.Ref.{now}
 use Rattle.grid.specs.Shapes.{sides}
 use Rattle.surface.specs.declared.surfaces.Surface.{Surface}
-use Rattle.surface.specs.States.{tables}
+use Rattle.surface.specs.States.{numbering, tables}
 use Rattle.surface.specs.Marches.{State}
 
 abbrev pub state : Surface → State
 state s = record {
   sides = sides (s .shape);
   marks = now (s .marks);
-  tables = tables (now (s .map .entries)) (now (s .vertices .items)) (s .vertices .count) (now (s .triangles .items)) (s .triangles .count);
+  tables = tables (numbering (now (s .map .entries)) (now (s .vertices .items)) (s .vertices .count)) (now (s .triangles .items)) (s .triangles .count);
 }

@@ -1,4 +1,5 @@
 mod answers;
+mod naming;
 mod needs;
 mod records;
 mod surfaces;

@@ -1,4 +1,5 @@
 ghost use denote.Ref.{now};
+ghost use Rattle.surface.specs.States.{numbering};
 ghost use Rattle.surface.specs.Ties.{Tied};
 use crate::records::Records;
 use grid::GridEdge;
@@ -15,5 +16,5 @@ pub struct Surface<'a> {
     map: KeyMap<'a, GridEdge>,
     vertices: Records<'a, Vertex>,
     triangles: Records<'a, Triangle<u32>>,
-    ghost tied: { ∥ Tied (now (map .entries)) (now (vertices .items)) (vertices .count) ∥₁ },
+    ghost tied: { ∥ Tied (numbering (now (map .entries)) (now (vertices .items)) (vertices .count)) ∥₁ },
 }
