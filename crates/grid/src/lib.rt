@@ -28,3 +28,5 @@ pub use refusals::Refusal;
 pub use refusals::RefusalDebug;
 pub use refusals::RefusalPartialEq;
 pub use shapes::Shape;
+pub use shapes::ShapeDebug;
+pub use shapes::ShapePartialEq;

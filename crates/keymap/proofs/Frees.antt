@@ -1,16 +1,16 @@
 -- How many entries are free, and what that says of a search. Assumes nothing.
-use mathlib.Core.Path.{_≡_, refl, sym, ap, _∙_}
-use mathlib.Core.Bool.{Bool, true, false, cond}
+use mathlib.Core.Path.{_≡_, refl, _∙_}
+use mathlib.Core.Bool.{true, cond}
 use mathlib.Core.List.{List, [], _∷_}
 use mathlib.Core.Logic.{⊎-elim}
 use Prim.Native.Nat.{ℕ, zero, suc, _+_, _<_, _≤_}
 use native.Mathlib.Omega.{arith}
-use lib.ListN.{length, getD, set, replicate, length-set}
+use lib.ListN.{length, getD, replicate, length-set}
 use Rattle.std.specs.declared.option.Option.{Option}
 use Rattle.std.specs.declared.option.Option.the-variants.{Some, None}
 use Rattle.std.specs.Options.{isSome}
 use Rattle.std.proofs.shelf.Lists.{set-past}
-use Rattle.std.proofs.shelf.Sums.{sumBy-cons, sumBy-set}
+use Rattle.std.proofs.shelf.Sums.{sumBy-cons, sumBy-set, countBy-le-length}
 use Rattle.std.proofs.shelf.Tests.{cases-lt, false≢true}
 use Rattle.keymap.specs.declared.table.Entry.{Entry}
 use Rattle.keymap.specs.declared.table.Entry.the-variants.{Free, Held}
@@ -28,11 +28,17 @@ module _ {K : Type 0} where
 
   -- no entry of a table where none is free counts
   pub free-crowded : (es : List (Entry K)) → Crowded es → free es ≡ 0
+  unfolding free
   free-crowded [] c = refl
   free-crowded (Free ∷ es) c = absurd (c 0 (omega arith) refl)
   free-crowded (Held k v ∷ es) c =
       let h = free-crowded es (λ i b. c (suc i) (omega arith)) in
       sumBy-cons one (Held k v) es ∙ omega (arith, h)
+
+  -- no more entries are free than there are
+  pub free-le-length : (es : List (Entry K)) → free es ≤ length es
+  unfolding free
+  free-le-length es = countBy-le-length is-free es
 
   pub length-put : (es : List (Entry K)) (o : Option ℕ) (k : K) (v : ℕ) → length (put es o k v) ≡ length es
   length-put es None k v = refl
@@ -40,6 +46,7 @@ module _ {K : Type 0} where
 
   -- a put takes at most one free entry
   pub free-put : (es : List (Entry K)) (o : Option ℕ) (k : K) (v : ℕ) → free es ≤ free (put es o k v) + 1
+  unfolding free
   free-put es None k v = omega arith
   free-put es (Some i) k v =
       ⊎-elim
@@ -69,6 +76,7 @@ module _ {K : Type 0} where
 
     module _ (k : K) (v : ℕ) where
       new-at : (o : Option ℕ) → slot meaning hashed es (meaning k) ≡ o → number-at es o ≡ None → isSome o ≡ true → free es ≡ free (put es o k v) + 1
+      unfolding free
       new-at None e h s = absurd (false≢true s)
       new-at (Some i) e h s =
           let b = sumBy-set one es i (Held k v) Free (slot-below meaning hashed es (meaning k) i e) in
@@ -76,6 +84,7 @@ module _ {K : Type 0} where
           omega (arith, b, f)
 
       old-at : (n : ℕ) (o : Option ℕ) → slot meaning hashed es (meaning k) ≡ o → number-at es o ≡ Some n → free (put es o k v) ≡ free es
+      unfolding free
       old-at n None e h = refl
       old-at n (Some i) e h =
           let b = sumBy-set one es i (Held k v) Free (slot-below meaning hashed es (meaning k) i e) in
@@ -92,6 +101,7 @@ module _ {K : Type 0} where
 
 -- each entry of a cleared table counts
 pub free-cleared : (K : Type 0) (n : ℕ) → free {K = K} (replicate n Free) ≡ n
+unfolding free
 free-cleared K zero = refl
 free-cleared K (suc n) =
     let h = free-cleared K n in

@@ -1,7 +1,7 @@
 -- What a table holds, after a put, by its entries and once it is cleared. Assumes nothing.
-use mathlib.Core.Path.{_≡_, refl, sym, ap, _∙_}
-use mathlib.Core.Bool.{Bool, true, false}
-use mathlib.Core.List.{List, [], _∷_}
+use mathlib.Core.Path.{_≡_, refl, ap, _∙_}
+use mathlib.Core.Bool.{true}
+use mathlib.Core.List.{List}
 use mathlib.Core.Logic.{⊎-elim}
 use Prim.Native.Nat.{ℕ, zero, suc, _<_}
 use native.Mathlib.Omega.{arith}
@@ -87,3 +87,18 @@ module _ {K : Type 0} where
       -- a number that an entry of a sound table holds is found
       pub holder-lookup : Sound meaning hashed es → (i : ℕ) (k : K) (n : ℕ) → getD es i Free ≡ Held k n → lookup meaning hashed es (meaning k) ≡ Some n
       holder-lookup sound i k n e = ap (number-at es) (sound .own i k n e) ∙ ap number-in e
+
+      slot-at : (m : List ℕ) (n : ℕ) (o : Option ℕ) → number-at es o ≡ Some n → isSome o ≡ true
+      slot-at m n None h = let z : _≡_ {A = ℕ} 0 1 = cc in absurd (omega arith)
+      slot-at m n (Some i) h = refl
+
+      -- the search for a held key ends at an entry, in a full table too
+      pub lookup-slot : (m : List ℕ) (n : ℕ) → lookup meaning hashed es m ≡ Some n → isSome (slot meaning hashed es m) ≡ true
+      lookup-slot m n = slot-at m n (slot meaning hashed es m)
+
+      -- a sound table holds a key once
+      pub held-once : Sound meaning hashed es → (i j : ℕ) (k l : K) (v w : ℕ) → getD es i Free ≡ Held k v → getD es j Free ≡ Held l w → meaning k ≡ meaning l → i ≡ j
+      held-once sound i j k l v w e f g =
+          let p : slot meaning hashed es (meaning k) ≡ Some i = sound .own i k v e in
+          let q : slot meaning hashed es (meaning l) ≡ Some j = sound .own j l w f in
+          cc

@@ -12,5 +12,5 @@ is-free Free = true
 is-free (Held k v) = false
 
 -- the number of free entries
-abbrev pub free : {K : Type 0} → List (Entry K) → ℕ
+unfoldable pub free : {K : Type 0} → List (Entry K) → ℕ
 free es = countBy is-free es

@@ -1,13 +1,12 @@
 -- What makes the table a map.
 use mathlib.Core.Path.{_≡_}
-use mathlib.Core.Bool.{Bool, true, false}
+use mathlib.Core.Bool.{true}
 use mathlib.Core.List.{List}
 use Prim.Native.Nat.{ℕ}
-use Rattle.std.specs.declared.option.Option.{Option}
-use Rattle.std.specs.declared.option.Option.the-variants.{Some, None}
+use Rattle.std.specs.declared.option.Option.the-variants.{Some}
 use Rattle.std.specs.Options.{isSome}
 use Rattle.keymap.specs.declared.table.Entry.{Entry}
-use Rattle.keymap.specs.Probe.{slot, lookup, put, Sound}
+use Rattle.keymap.specs.Probe.{slot, lookup, Sound}
 
 -- After `k` was put with the number `v`, where there was an entry for it: the table is sound again, it holds `v` for `k`, and for every
 -- other meaning what it held before.

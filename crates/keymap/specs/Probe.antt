@@ -1,4 +1,4 @@
--- The search of an open-addressing table, over the list of its entries.
+-- The search of a table with open addressing and linear probing, over the list of its entries. A key counts by its meaning alone.
 use mathlib.Core.Path.{_≡_}
 use mathlib.Core.Bool.{Bool, true, false, cond, _&&_}
 use mathlib.Core.List.{List, [], _∷_}
@@ -30,12 +30,12 @@ abbrev pub stops : {K : Type 0} → (K → List ℕ) → List ℕ → Entry K �
 stops meaning m Free = true
 stops meaning m (Held k v) = alike (meaning k) m
 
--- where the search ends that is at the entry `i`, with `left` entries to look at
+-- where a search ends that has come to the entry `i`, with `left` entries to look at: at the first one that is free or holds the key
 unfoldable pub seek : {K : Type 0} → (K → List ℕ) → List (Entry K) → List ℕ → ℕ → ℕ → Option ℕ
 seek meaning es m zero i = None
 seek meaning es m (suc left) i = cond (stops meaning m (getD es i Free)) (Some i) (seek meaning es m left (next (length es) i))
 
--- where the search for the meaning `m` of the hash `h` ends
+-- where the search for the meaning `m` ends: none if every entry holds another key
 unfoldable pub slot : {K : Type 0} → (K → List ℕ) → (List ℕ → ℕ) → List (Entry K) → List ℕ → Option ℕ
 slot meaning hashed es m = seek meaning es m (length es) (start (hashed m) (length es))
 
@@ -44,6 +44,7 @@ abbrev pub number-in : {K : Type 0} → Entry K → Option ℕ
 number-in Free = None
 number-in (Held k v) = Some v
 
+-- the number at the entry where a search ended
 abbrev pub number-at : {K : Type 0} → List (Entry K) → Option ℕ → Option ℕ
 number-at es None = None
 number-at es (Some i) = number-in (getD es i Free)
@@ -52,6 +53,7 @@ number-at es (Some i) = number-in (getD es i Free)
 abbrev pub lookup : {K : Type 0} → (K → List ℕ) → (List ℕ → ℕ) → List (Entry K) → List ℕ → Option ℕ
 lookup meaning hashed es m = number-at es (slot meaning hashed es m)
 
+-- the table once the key `k` is put with the number `v` where its search ended; if it ended nowhere, the table is as it was
 abbrev pub put : {K : Type 0} → List (Entry K) → Option ℕ → K → ℕ → List (Entry K)
 put es None k v = es
 put es (Some i) k v = set es i (Held k v)

@@ -6,6 +6,7 @@ mod tests;
 
 pub use map::KeyMap;
 pub use table::Entry;
+pub use table::EntryClone;
 pub use table::Full;
 pub use table::FullDebug;
 pub use table::FullPartialEq;

@@ -2,6 +2,7 @@ ghost use mathlib.Core.List.{[], _∷_};
 ghost use lib.ListN.{getD};
 use crate::map::KeyMap;
 use crate::table::Entry;
+use crate::table::EntryClone;
 use crate::table::Full;
 use crate::table::FullDebug;
 use crate::table::FullPartialEq;
@@ -52,8 +53,8 @@ fn probing_wraps_round() -> Result<(), Fail> {
 }
 
 #[test]
-fn held_number_is_replaced() -> Result<(), Fail> {
-    let mut entries = [Entry::Free; 3];
+fn held_number_is_replaced(rt: LibcRuntime) -> Result<(), Fail> {
+    let mut entries = vec![in rt.alloc(); Entry::Free; 3]?;
     let mut map = KeyMap::over(&mut entries);
     map.insert(Number { n: 1 }, 10)?;
     map.insert(Number { n: 1 }, 11)?;

@@ -1,1 +1,3 @@
 pub mod Namings
+pub mod Uniform
+pub mod Begun

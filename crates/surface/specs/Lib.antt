@@ -1,7 +1,8 @@
 pub mod Answers
 pub mod Rooms
-pub mod Ties
 pub mod States
 pub mod Fits
+pub mod Ties
+pub mod Needs
 pub mod Marches
 pub mod Views

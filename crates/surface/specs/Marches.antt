@@ -1,30 +1,32 @@
 -- What a march does.
-use mathlib.Core.Bool.{Bool, true, false, cond, not, _&&_}
+use mathlib.Core.Bool.{Bool, true, false, cond}
 use mathlib.Core.List.{List}
 use mathlib.Core.Path.{_≡_}
 use Prim.Native.Nat.{ℕ, _+_}
-use lib.Dec.{ltb, leb}
-use lib.ListN.{length, getD, set}
+use lib.Dec.{ltb}
+use lib.ListN.{length, getD, set, replicate}
 use Rattle.std.specs.declared.option.Option.{Option}
 use Rattle.std.specs.declared.option.Option.the-variants.{Some, None}
 use Rattle.std.specs.declared.result.Result.{Result}
 use Rattle.std.specs.declared.result.Result.the-variants.{Ok, Err}
-use Rattle.std.specs.Options.{isSome}
-use Rattle.std.specs.shelf.Lists.{countBy}
 use Rattle.grid.specs.declared.geometry.Point.{Point}
 use Rattle.grid.specs.declared.geometry.GridEdge.{GridEdge}
 use Rattle.grid.specs.declared.refusals.Refusal.{Refusal}
-use Rattle.grid.specs.declared.refusals.Refusal.the-variants.{Outside, Marched, NoMark, EntryRoom, VertexRoom, TriangleRoom}
-use Rattle.grid.specs.Points.{Sides, crossed}
-use Rattle.grid.specs.Cells.{cell-count, cell-base, cell-edges, cell-triangles}
-use Rattle.grid.specs.EdgeKeys.{vertex-on}
+use Rattle.grid.specs.declared.refusals.Refusal.the-variants.{Outside, Marched, NoMark}
+use Rattle.grid.specs.Points.{Sides}
+use Rattle.grid.specs.Cells.{cell-count, cell-base, cell-triangles}
 use Rattle.grid.specs.Shapes.{shapes-refusal}
-use Rattle.keymap.specs.declared.table.Entry.{Entry}
 use Rattle.keymap.specs.Frees.{free}
+use Rattle.grid.specs.declared.geometry.Triangle.{Triangle}
+use Rattle.keymap.specs.declared.table.Entry.the-variants.{Free}
 use Rattle.mesh.specs.declared.records.Coordinates.{Coordinates}
-use Rattle.surface.specs.declared.needs.Need.{Need}
+use Rattle.mesh.specs.declared.records.Vertex.{Vertex}
+use Rattle.surface.specs.declared.sizes.Need.{Need}
+use Rattle.surface.specs.Needs.{need, lack}
+use Rattle.volume.specs.declared.fractions.Fraction.{Fraction}
+use Rattle.surface.specs.Answers.{inside-at, place}
 use Rattle.surface.specs.Rooms.{room-left}
-use Rattle.surface.specs.States.{Tables, added-all}
+use Rattle.surface.specs.States.{Tables, tables, numbering, added-all}
 
 -- a surface: the sides of its shape, which cells are marked as marched, and its tables
 pub record State : Type 0 where
@@ -38,22 +40,13 @@ pub record Field : Type 0 where
   pub inside : Point → Bool
   pub place : GridEdge → Coordinates
 
--- the edge is crossed and has no vertex
-abbrev pub wanting : (Point → Bool) → List (Entry GridEdge) → GridEdge → Bool
-wanting inside es e = crossed inside e && not (isSome (vertex-on es e))
+-- the field of a volume of any kind of samples K with levels L: its sides and its samples at the level h
+abbrev pub field : {K L : Type 0} → (K → L → Bool) → (K → K → L → Fraction) → L → Sides → (Point → Option K) → Field
+field inside crossing h s sample = record { sides = s; inside = inside-at inside crossing h sample; place = place inside crossing h sample }
 
--- what a march of the cell at B needs: its crossed edges that have no vertex, and its triangles
-unfoldable pub need : (Point → Bool) → List (Entry GridEdge) → Point → Need
-need inside es B = record { vertices = countBy (wanting inside es) (cell-edges B); triangles = length (cell-triangles inside B) }
-
--- why a need is refused: free entries, vertex records and triangle records, in this order
+-- why a surface has no room for a need
 abbrev pub room-refusal : Tables → Need → ℕ → Option Refusal
-room-refusal s n cell =
-    cond (leb (n .vertices) (free (s .numbered .entries)))
-    (cond (leb (n .vertices) (room-left (length (s .numbered .vertices)) (s .numbered .count)))
-    (cond (leb (n .triangles) (room-left (length (s .triangles)) (s .count))) None (Some (TriangleRoom cell)))
-    (Some (VertexRoom cell)))
-    (Some (EntryRoom cell))
+room-refusal s n cell = lack n (free (s .numbered .entries)) (room-left (length (s .numbered .vertices)) (s .numbered .count)) (room-left (length (s .triangles)) (s .count)) cell
 
 -- why a cell cannot be marched: there is no such cell, no mark for it, or it is marched already
 abbrev pub cell-refusal : State → ℕ → Option Refusal
@@ -90,3 +83,11 @@ March f s cell (Ok n) t =
     × (n ≡ need (f .inside) (s .tables .numbered .entries) (cell-base (s .sides) cell))
     × (t ≡ marched f s cell)
     × (t .tables .numbered .count ≡ s .tables .numbered .count + n .vertices)
+
+-- a surface as it begins: no cell is marked, no entry is taken, and there are no vertices and no triangles
+unfoldable pub begun : Sides → ℕ → ℕ → List Vertex → List (Triangle ℕ) → State
+begun s marks entries vs ts = record {
+  sides = s;
+  marks = replicate marks false;
+  tables = tables (numbering (replicate entries Free) vs 0) ts 0;
+}

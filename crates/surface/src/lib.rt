@@ -1,9 +1,11 @@
 mod answers;
+mod calls;
 mod naming;
 mod needs;
 mod records;
+mod sizes;
 mod surfaces;
 
-pub use needs::Need;
 pub use records::Records;
+pub use sizes::Need;
 pub use surfaces::Surface;

@@ -1,7 +1,7 @@
 ghost use mathlib.Core.Path.{_≡_};
 ghost use Prim.Native.Nat.{ℕ, _+_, _-_, _≤_, _<_, min};
 ghost use lib.ListN.{length, set};
-ghost use denote.Ref.{now, name};
+ghost use denote.Ref.{name};
 ghost use Rattle.surface.specs.Rooms.{room-left};
 
 // Records in a lent slice, and how many of them are taken.
@@ -9,7 +9,6 @@ ghost use Rattle.surface.specs.Rooms.{room-left};
 pub struct Records<'a, T> {
     pub items: &'a mut [T],
     pub count: u32,
-    ghost within: { count ≤ length (now items) },
 }
 
 impl<'a, T: Copy> Records<'a, T> {
@@ -26,7 +25,10 @@ impl<'a, T: Copy> Records<'a, T> {
     pub fn room(&self) -> usize
         ensures { λ r. ⌜ r ≡ room-left (length (now (now (self .entry) .items))) (now (self .entry) .count) ⌝ }
     {
-        self.items.len().min(4_294_967_295) - self.count as usize
+        self.items
+            .len()
+            .min(4_294_967_295)
+            .saturating_sub(self.count as usize)
     }
 
     // Takes the next record.

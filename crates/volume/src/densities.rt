@@ -1,7 +1,16 @@
 ghost use Rattle.volume.specs.Kinds.{density-inside, density-crossing, density-stored};
+ghost use mathlib.Core.Path.{_≡_};
+ghost use Rattle.std.specs.declared.option.Option.the-variants.{Some};
 use crate::fractions::Fraction;
 use crate::kinds::SampleKind;
 use crate::samples::Density;
+
+// The density of a number.
+pub(crate) fn density_of(value: u16) -> Density
+    ensures { λ r. ⌜ density-stored value ≡ Some r ⌝ }
+{
+    Density { value }
+}
 
 pub impl SampleKind for Density as DensityKind {
     type Level = u16;
@@ -26,6 +35,6 @@ pub impl SampleKind for Density as DensityKind {
     }
 
     fn load(entry: &u16) -> Option<Density> {
-        Some(Density { value: *entry })
+        Some(density_of(*entry))
     }
 }

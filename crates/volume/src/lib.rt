@@ -35,3 +35,6 @@ pub use samples::RatioPartsPartialEq;
 pub use tables::TableVolume;
 pub use tables::TableVolumeVolume;
 pub use volumes::Volume;
+
+#[cfg(test)]
+mod tests;

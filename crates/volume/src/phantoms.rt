@@ -1,8 +1,11 @@
 ghost use mathlib.Core.Path.{_≡_};
 ghost use Prim.Native.Nat.{ℕ, _+_, _-_, _*_, _≤_};
+ghost use mathlib.Core.Bool.{true};
+ghost use Rattle.grid.specs.Points.{sampled};
 ghost use Rattle.grid.specs.Shapes.{sides};
-ghost use Rattle.volume.specs.Volumes.{square-apart, phantom-sample};
+ghost use Rattle.volume.specs.Volumes.{square-apart, squared-distance, phantom-sample};
 use crate::densities::DensityKind;
+use crate::densities::density_of;
 use crate::samples::Density;
 use crate::volumes::Volume;
 use crate::volumes::has_sample;
@@ -27,6 +30,16 @@ fn square_apart(at: u8, centre: u8) -> u64
     apart * apart
 }
 
+impl Phantom {
+    // The squared distance of the sample at a point from the centre.
+    fn squared_distance(&self, p: Point) -> u64
+        requires { ⌜ sampled (sides (now self .shape)) p ≡ true ⌝ }
+        ensures { λ r. ⌜ r ≡ squared-distance (now (self .entry)) p ⌝ }
+    {
+        square_apart(p.x, self.cx) + square_apart(p.y, self.cy) + square_apart(p.z, self.cz)
+    }
+}
+
 pub impl Volume for Phantom as PhantomVolume {
     type Kind = Density;
 
@@ -42,11 +55,7 @@ pub impl Volume for Phantom as PhantomVolume {
         if !has_sample(self.shape, p) {
             return None;
         }
-        let far = square_apart(p.x, self.cx)
-            + square_apart(p.y, self.cy)
-            + square_apart(p.z, self.cz);
-        Some(Density {
-            value: (65535 - far.min(65535)) as u16,
-        })
+        let far = self.squared_distance(p);
+        Some(density_of((65535 - far.min(65535)) as u16))
     }
 }

@@ -12,7 +12,7 @@ use grid::Refusal;
 impl Ratio {
     // The ratio n/d, or which part cannot be one's.
     pub fn new(n: u16, d: u16) -> Result<Ratio, Refusal>
-        ensures { λ r. ⌜ Cases r (λ v. (ratio-refusal (parts n d) ≡ None) × ((v .n ≡ n) × (v .d ≡ d))) (λ e. ratio-refusal (parts n d) ≡ Some e) ⌝ }
+        ensures { λ r. ⌜ Cases r (λ v. (ratio-refusal (parts n d) ≡ None) × ((v .n ≡ n) × (v .d ≡ d)) × (ratio-stored (parts n d) ≡ Some v)) (λ e. ratio-refusal (parts n d) ≡ Some e) ⌝ }
     {
         if n > 4095 {
             return Err(Refusal::RatioPart(0));

@@ -30,7 +30,7 @@ pub trait Volume {
 }
 
 // Whether the point lies in the block of samples.
-pub fn has_sample(shape: Shape, p: Point) -> bool
+pub(crate) fn has_sample(shape: Shape, p: Point) -> bool
     ensures { λ r. ⌜ r ≡ sampled (sides shape) p ⌝ }
 {
     1 <= p.x && p.x <= shape.nx && 1 <= p.y && p.y <= shape.ny && 1 <= p.z && p.z <= shape.nz

@@ -1,21 +1,19 @@
 use mathlib.Core.Path.{_≡_, ap, sym, _∙_}
-use Prim.Native.Nat.{_-_}
 use native.Mathlib.Omega.{arith}
 use borrow.Author.Needs.{needs}
 use lib.ListN.{length}
-use Rattle.std.specs.declared.option.Option.the-variants.{None}
-use Rattle.keymap.specs.Probe.{stops, next, seek, slot}
+use Rattle.std.specs.declared.option.Option.the-variants.{Some, None}
+use Rattle.keymap.specs.Probe.{stops, next}
 use Rattle.keymap.proofs.Laws.{slot-maps, slot-full}
-use Rattle.keymap.proofs.Seeks.{seek-ends, seek-on, seek-over}
+use Rattle.keymap.proofs.Seeks.{seek-on, slot-ends, slot-over, slot-empty}
 use Rattle.keymap.proofs.table.find.Needs as need
 
 pub returns-then-n-eq0 : need.returns-then-n-eq0
-unfolding slot
 returns-then-n-eq0 g c =
     let k = g .K·Key in
     let es = c .args .entries .now in
     let m = k .meaning (c .args .key .now) in
-    let found : None ≡ slot (k .meaning) (k .hashed) es m = seek-over (k .meaning) es m _ _ (omega arith) in
+    let found = slot-empty (k .meaning) es m (k .hashed) (omega arith) in
     record {
       within = tt;
       found = found;
@@ -24,12 +22,11 @@ returns-then-n-eq0 g c =
     }
 
 pub returns : need.returns
-unfolding slot
 returns g c =
     let k = g .K·Key in
     let es = c .args .entries .now in
     let m = k .meaning (c .args .key .now) in
-    let found : None ≡ slot (k .meaning) (k .hashed) es m = seek-over (k .meaning) es m (length es - c .loop-tried .tried) (c .loop-tried .i) (omega arith) ∙ c .loop-tried .inv .1 in
+    let found = slot-over (k .meaning) es m (k .hashed) _ _ (c .loop-tried .inv .1) (omega arith) in
     record {
       within = tt;
       found = found;
@@ -38,33 +35,33 @@ returns g c =
     }
 
 pub returns-in-Free : need.returns-in-Free
-unfolding slot
 returns-in-Free g c =
     let k = g .K·Key in
     let es = c .args .entries .now in
     let m = k .meaning (c .args .key .now) in
+    let i = c .loop-tried .i in
     let s = ap (stops (k .meaning) m) (c .in-Free .is) in
-    let found = seek-ends (k .meaning) es m _ _ _ _ (c .loop-tried-test .taken) (c .loop-tried .inv .0) (c .index-entries-i .is) s ∙ c .loop-tried .inv .1 in
+    let found = slot-ends (k .meaning) es m (k .hashed) _ _ _ _ (c .loop-tried .inv .1) (c .loop-tried-test .taken) (c .loop-tried .inv .0) (c .index-entries-i .is) s in
     record {
       within = c .loop-tried .inv .0;
       found = found;
-      maps = slot-maps (k .meaning) (k .hashed) es (c .args .key .now) _ found;
-      full = slot-full (k .meaning) (k .hashed) es m _ found;
+      maps = slot-maps (k .meaning) (k .hashed) es (c .args .key .now) (Some i) found;
+      full = slot-full (k .meaning) (k .hashed) es m (Some i) found;
     }
 
 pub returns-then-same : need.returns-then-same
-unfolding slot
 returns-then-same g c =
     let k = g .K·Key in
     let es = c .args .entries .now in
     let m = k .meaning (c .args .key .now) in
+    let i = c .loop-tried .i in
     let s = ap (stops (k .meaning) m) (c .in-Held .is) ∙ sym (c .if-same .ensures tt) in
-    let found = seek-ends (k .meaning) es m _ _ _ _ (c .loop-tried-test .taken) (c .loop-tried .inv .0) (c .index-entries-i .is) s ∙ c .loop-tried .inv .1 in
+    let found = slot-ends (k .meaning) es m (k .hashed) _ _ _ _ (c .loop-tried .inv .1) (c .loop-tried-test .taken) (c .loop-tried .inv .0) (c .index-entries-i .is) s in
     record {
       within = c .loop-tried .inv .0;
       found = found;
-      maps = slot-maps (k .meaning) (k .hashed) es (c .args .key .now) _ found;
-      full = slot-full (k .meaning) (k .hashed) es m _ found;
+      maps = slot-maps (k .meaning) (k .hashed) es (c .args .key .now) (Some i) found;
+      full = slot-full (k .meaning) (k .hashed) es m (Some i) found;
     }
 
 pub loop-tried-again : need.loop-tried-again
