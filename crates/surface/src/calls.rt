@@ -8,8 +8,8 @@ ghost use Rattle.std.specs.declared.option.Option.the-variants.{Some, None};
 ghost use Rattle.grid.specs.Shapes.{sides};
 ghost use Rattle.grid.specs.Cells.{cell-base};
 ghost use Rattle.keymap.specs.Frees.{free};
-ghost use Rattle.surface.specs.Marches.{begun, field, cell-refusal, March};
-ghost use Rattle.surface.specs.Views.{state};
+ghost use Rattle.surface.specs.Marches.{begun, field, cell-refusal, room-refusal, March};
+ghost use Rattle.surface.specs.Views.{state, Marchable};
 use crate::answers::flags;
 use crate::naming::add_all;
 use crate::needs::lacking;
@@ -67,4 +67,78 @@ impl<'a> Surface<'a> {
     {
         self.map.len() - self.vertices.count as usize
     }
+
+    // The cell of a number, if it can be marched: it is one of the grid's, has a mark, and is not marched yet.
+    fn cell_to_march(&self, cell: u32) -> Result<Cell, Refusal>
+        ensures { λ r. ⌜ Cases r (λ c. Marchable (state (now (self .entry))) cell c) (λ e. cell-refusal (state (now (self .entry))) cell ≡ Some e) ⌝ }
+    {
+        let Some(found) = self.shape.cell(cell) else {
+            return Err(Refusal::Outside(cell));
+        };
+        let index = cell as usize;
+        if index >= self.marks.len() {
+            return Err(Refusal::NoMark(cell));
+        }
+        if is_marked(self.marks, index) {
+            return Err(Refusal::Marched(cell));
+        }
+        Ok(found)
+    }
+
+    // Why there is no room for a need, if there is none.
+    fn lacks(&self, need: Need, cell: u32) -> Option<Refusal>
+        ensures { λ r. ⌜ r ≡ room-refusal (state (now (self .entry)) .tables) need cell ⌝ }
+    {
+        lacking(
+            need,
+            self.free_entries(),
+            self.vertices.room(),
+            self.triangles.room(),
+            cell,
+        )
+    }
+
+    // Marches a cell: adds its triangles, with a vertex on each of its crossed edges, or refuses and changes nothing.
+    pub fn march<V: Volume>(
+        &mut self,
+        volume: &V,
+        level: &<V::Kind as SampleKind>::Level,
+        cell: u32,
+    ) -> Result<Need, Refusal>
+        ensures { λ r. ⌜ March (field (Kind·SampleKind .inside) (Kind·SampleKind .crossing) (now (level .entry)) (sides (V·Volume .shaped (now (volume .entry)))) (V·Volume .sample (now (volume .entry)))) (state (now (self .entry))) cell r (state (now (self .exit))) ⌝ }
+    {
+        if let Some(why) = self.shape.refuses(volume.shape()) {
+            return Err(why);
+        }
+        let at = match self.cell_to_march(cell) {
+            Ok(at) => at,
+            Err(why) => return Err(why),
+        };
+        let inside = flags(volume, level, at);
+        let need = need_of(&self.map, at, &inside);
+        if let Some(why) = self.lacks(need, cell) {
+            return Err(why);
+        }
+        if need.triangles > 0 {
+            let list = at.triangles(&inside);
+            add_all(
+                &mut self.map,
+                &mut self.vertices,
+                &mut self.triangles,
+                volume,
+                level,
+                &list.items[0..list.count],
+            );
+        }
+        self.marks[cell as usize] = true;
+        Ok(need)
+    }
+}
+
+// Whether a cell is marked.
+fn is_marked(marks: &[bool], index: usize) -> bool
+    requires { ⌜ index < length (now marks) ⌝ }
+    ensures { λ r. ⌜ r ≡ getD (now (marks .entry)) index false ⌝ }
+{
+    marks[index]
 }

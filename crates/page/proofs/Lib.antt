@@ -1,0 +1,5 @@
+pub mod Decimal
+pub mod Writes
+pub mod Apart
+pub mod Steps
+pub mod Pages

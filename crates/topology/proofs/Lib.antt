@@ -1,0 +1,19 @@
+pub mod Finite
+pub mod Members
+pub mod Moved
+pub mod Tables
+pub mod Crossed
+pub mod Keys
+pub mod Places
+pub mod Across
+pub mod Opposite
+pub mod Seats
+pub mod Whole
+pub mod Star
+pub mod Round
+pub mod Ringed
+pub mod Sums
+pub mod Balance
+pub mod Listed
+pub mod Facing
+mod Examples
