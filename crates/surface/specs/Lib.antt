@@ -6,3 +6,4 @@ pub mod Ties
 pub mod Needs
 pub mod Marches
 pub mod Views
+pub mod Questions
