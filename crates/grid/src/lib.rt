@@ -19,6 +19,7 @@ pub use geometry::PointPartialEq;
 pub use geometry::Span;
 pub use geometry::TetEdge;
 pub use geometry::Triangle;
+pub use geometry::TriangleClone;
 pub use geometry::TriangleDebug;
 pub use geometry::TrianglePartialEq;
 pub use marching::CellEdges;

@@ -1,18 +1,13 @@
-use std::io;
+use extract::skin;
+use std::error::AnyError;
 use std::io::Read;
+use std::io::Write;
 
-// The longest volume file that is read.
-const LONGEST: usize = 4096;
-
-// Reads a volume file from standard input, and writes the OFF page of its skin.
-fn main(rt: LibcRuntime) -> io::Result<()> {
+// Reads a volume file from standard input, and writes the OFF page of its skin, or the line that reports why it is refused.
+fn main(rt: LibcRuntime) -> Result<(), AnyError> {
     let mut input = Vec::new(rt.alloc());
     rt.stdin().take(4097).read_to_end(&mut input)?;
-    let length = input.len();
-    if length > LONGEST {
-        println!(rt, "refused 12 4096")?;
-    } else if length < 4 {
-        println!(rt, "refused 9 4")?;
-    }
+    let output = skin(rt.alloc(), &input)?;
+    rt.stdout().write_all(&output)?;
     Ok(())
 }

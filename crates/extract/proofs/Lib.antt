@@ -1,0 +1,3 @@
+pub mod Rises
+pub mod Tables
+pub mod Reading

@@ -1,0 +1,5 @@
+mod cells;
+mod files;
+
+pub use cells::extract_page;
+pub use files::skin;
