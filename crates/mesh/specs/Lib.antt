@@ -1,1 +1,13 @@
 pub mod Sides
+pub mod Triangles
+pub mod Rings
+pub mod Surfaces
+pub mod MeshEdges
+pub mod Parts
+pub mod First
+pub mod Faults
+pub mod Verdicts
+pub mod Counting
+pub mod EdgeTables
+pub mod VertexNotes
+pub mod Forests

@@ -2,3 +2,4 @@ pub mod Stored
 mod Crossings
 mod ShortTables
 mod Runs
+pub mod Exact

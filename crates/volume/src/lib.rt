@@ -1,6 +1,7 @@
 mod densities;
 mod files;
 mod fractions;
+mod insides;
 mod kinds;
 mod labels;
 mod phantoms;
@@ -15,6 +16,9 @@ pub use files::read_file;
 pub use fractions::Fraction;
 pub use fractions::FractionDebug;
 pub use fractions::FractionPartialEq;
+pub use insides::answer_inside;
+pub use insides::corners_inside;
+pub use insides::point_inside;
 pub use kinds::SampleKind;
 pub use labels::LabelKind;
 pub use phantoms::Phantom;

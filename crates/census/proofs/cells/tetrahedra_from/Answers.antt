@@ -1,0 +1,7 @@
+use mathlib.Core.Path.{_∙_}
+use native.Mathlib.Omega.{arith}
+use Rattle.census.proofs.Starts.{tetrahedra-start}
+use Rattle.census.proofs.cells.tetrahedra_from.Needs as need
+
+pub returns : need.returns
+returns c = record { value = c .count .ensures .value ∙ tetrahedra-start (c .args .at .now) (c .pre); few = omega arith }

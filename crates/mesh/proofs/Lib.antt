@@ -1,0 +1,12 @@
+pub mod Counting
+pub mod Walks
+pub mod Round
+pub mod Spokes
+pub mod EdgeCount
+pub mod Pointers
+pub mod Labels
+pub mod Grouping
+pub mod Judging
+pub mod EdgeNotes
+pub mod Tallies
+pub mod Vertices

@@ -1,0 +1,16 @@
+use mathlib.Core.Path.{_≡_, refl}
+use native.Mathlib.Omega.{arith}
+use borrow.Author.Needs.{needs}
+use Rattle.std.proofs.shelf.Signed.{ints}
+use Rattle.mesh.proofs.Round.{surface-mesh}
+use Rattle.mesh.proofs.EdgeCount.{mesh-edges}
+use Rattle.mesh.proofs.inspection.surface_counts.Needs as need
+
+pub returns : need.returns
+returns c = record {
+  vertices = refl;
+  edges = mesh-edges (c .args .triangles .now) (surface-mesh _ (c .args .triangles .now) (c .pre .surface)) _ refl;
+  triangles = refl;
+  euler = omega (arith, ints);
+  parts = c .part-count .ensures;
+}
