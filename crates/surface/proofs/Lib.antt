@@ -4,3 +4,12 @@ pub mod Begun
 pub mod Ties
 pub mod Growth
 pub mod Marching
+pub mod Steady
+pub mod Models
+pub mod Ends
+pub mod Laid
+pub mod Bases
+pub mod Paired
+pub mod Closing
+pub mod Totals
+pub mod Kept

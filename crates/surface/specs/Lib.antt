@@ -7,3 +7,6 @@ pub mod Needs
 pub mod Marches
 pub mod Views
 pub mod Questions
+pub mod Runs
+pub mod Skins
+pub mod Law

@@ -10,6 +10,7 @@ ghost use Rattle.grid.specs.Cells.{cell-base};
 ghost use Rattle.keymap.specs.Frees.{free};
 ghost use Rattle.surface.specs.Marches.{begun, field, cell-refusal, room-refusal, March};
 ghost use Rattle.surface.specs.Views.{state, Marchable};
+ghost use Rattle.surface.specs.Law.{Begins-skin, Keeps-skin};
 use crate::answers::flags;
 use crate::naming::add_all;
 use crate::needs::lacking;
@@ -39,7 +40,7 @@ fn clear_marks(marks: &mut [bool])
 }
 
 impl<'a> Surface<'a> {
-    // A surface of a shape, with no cell marched yet.
+    // A surface of a shape, with no cell marched yet. Every run begins here.
     pub fn begin(
         shape: Shape,
         marks: &'a mut [bool],
@@ -47,7 +48,8 @@ impl<'a> Surface<'a> {
         vertices: &'a mut [Vertex],
         triangles: &'a mut [Triangle<u32>],
     ) -> Surface<'a>
-        ensures { λ r. ⌜ state r ≡ begun (sides shape) (length (now (marks .entry))) (length (now (entries .entry))) (now (vertices .entry)) (now (triangles .entry)) ⌝ }
+        ensures is { λ r. ⌜ state r ≡ begun (sides shape) (length (now (marks .entry))) (length (now (entries .entry))) (now (vertices .entry)) (now (triangles .entry)) ⌝ }
+        ensures skin { λ r. ⌜ Begins-skin (sides shape) (state r) ⌝ }
     {
         clear_marks(marks);
         let mut map = KeyMap::over(entries);
@@ -98,14 +100,16 @@ impl<'a> Surface<'a> {
         )
     }
 
-    // Marches a cell: adds its triangles, with a vertex on each of its crossed edges, or refuses and changes nothing.
+    // Marches a cell: adds its triangles, with a vertex on each of its crossed edges, or refuses and changes nothing. After every run of
+    // calls on one volume and level, refused ones and those of other shapes too, the surface keeps the skin law.
     pub fn march<V: Volume>(
         &mut self,
         volume: &V,
         level: &<V::Kind as SampleKind>::Level,
         cell: u32,
     ) -> Result<Need, Refusal>
-        ensures { λ r. ⌜ March (field (Kind·SampleKind .inside) (Kind·SampleKind .crossing) (now (level .entry)) (sides (V·Volume .shaped (now (volume .entry)))) (V·Volume .sample (now (volume .entry)))) (state (now (self .entry))) cell r (state (now (self .exit))) ⌝ }
+        ensures is { λ r. ⌜ March (field (Kind·SampleKind .inside) (Kind·SampleKind .crossing) (now (level .entry)) (sides (V·Volume .shaped (now (volume .entry)))) (V·Volume .sample (now (volume .entry)))) (state (now (self .entry))) cell r (state (now (self .exit))) ⌝ }
+        ensures skin { λ _. ⌜ Keeps-skin (field (Kind·SampleKind .inside) (Kind·SampleKind .crossing) (now (level .entry)) (sides (V·Volume .shaped (now (volume .entry)))) (V·Volume .sample (now (volume .entry)))) (state (now (self .entry))) (state (now (self .exit))) ⌝ }
     {
         if let Some(why) = self.shape.refuses(volume.shape()) {
             return Err(why);

@@ -19,7 +19,7 @@ pub loop-cell-again : need.loop-cell-again
 loop-cell-again g c =
     let k = g .Kind·SampleKind in
     let f = field (k .inside) (k .crossing) (c .args .level .now) (sides (g .V·Volume .shaped (c .args .volume .now))) (g .V·Volume .sample (c .args .volume .now)) in
-    let m = c .in-Continue-march .ensures tt in
+    let m = c .in-Continue-march .ensures tt .is in
     rising-more f (state (c .args .surface .now)) (c .loop-cell .cell) (state (c .loop-cell .surface)) (state (c .march .last .self)) (c .loop-cell .inv) (m .0) (m .2)
 
 pub returns-in-Break-march : need.returns-in-Break-march
@@ -27,7 +27,7 @@ returns-in-Break-march g c =
     let k = g .Kind·SampleKind in
     let f = field (k .inside) (k .crossing) (c .args .level .now) (sides (g .V·Volume .shaped (c .args .volume .now))) (g .V·Volume .sample (c .args .volume .now)) in
     let p = err-from-errBy (c .from-residual .result) (c .from-residual .ensures .1) in
-    let m = c .in-Break-march .ensures tt in
+    let m = c .in-Break-march .ensures tt .is in
     let last : c .cell-count-cell-end .result ≡ cell-count (f .sides) = c .cell-count-cell-end .ensures ∙ ap (λ (s : Shape). cell-count (sides s)) (c .shape .ensures .is) in
     rw (p .1, p .2)
     (refused-at f (state (c .args .surface .now)) (c .loop-cell .cell) (cell-count (f .sides)) (state (c .loop-cell .surface)) _ (omega (arith, last)) (c .loop-cell .inv) (m .0))

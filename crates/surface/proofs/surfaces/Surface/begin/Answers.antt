@@ -7,6 +7,7 @@ use Rattle.keymap.specs.declared.table.Entry.the-variants.{Free}
 use Rattle.surface.specs.Marches.{State, begun}
 use Rattle.surface.specs.States.{numbering, tables}
 use Rattle.surface.proofs.Begun.{tied-start}
+use Rattle.surface.proofs.Kept.{begin-keeps}
 use Rattle.surface.proofs.surfaces.Surface.begin.Needs as need
 
 pub ghost-result : need.ghost-result
@@ -22,8 +23,15 @@ pub returns : need.returns
 unfolding begun
 returns c =
     let es = c .clear .ensures .free ∙ ap (λ (n : ℕ). replicate n Free) (ap length (c .over-map .ensures .value)) in
+    let s : State = record {
+      sides = sides (c .args .shape);
+      marks = c .clear-marks .last .marks;
+      tables = tables (numbering (c .clear .last .self .entries .now) (c .over .result .items .now) (c .over .result .count)) (c .over-2 .result .items .now) (c .over-2 .result .count);
+    } in
+    let is : s ≡ begun (sides (c .args .shape)) (length (c .args .marks .now)) (length (c .args .entries .now)) (c .args .vertices .now) (c .args .triangles .now) =
     (λ i. record {
       sides = sides (c .args .shape);
       marks = c .clear-marks .ensures i;
       tables = tables (numbering (es i) (c .over .ensures .items i) (c .over .ensures .count i)) (c .over-2 .ensures .items i) (c .over-2 .ensures .count i);
-    })
+    }) in
+    record { is = is; skin = begin-keeps (sides (c .args .shape)) (length (c .args .marks .now)) (length (c .args .entries .now)) (c .args .vertices .now) (c .args .triangles .now) s is }

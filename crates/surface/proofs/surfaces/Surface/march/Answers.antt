@@ -6,6 +6,7 @@ use native.Mathlib.Omega.{arith}
 use lib.ListN.{length, take, set}
 use Rattle.std.specs.declared.option.Option.{Option}
 use Rattle.std.specs.declared.option.Option.the-variants.{Some, None}
+use Rattle.std.specs.declared.result.Result.the-variants.{Ok, Err}
 use Rattle.grid.specs.declared.geometry.GridEdge.{GridEdge}
 use Rattle.grid.specs.declared.geometry.Triangle.{Triangle}
 use Rattle.grid.specs.declared.refusals.Refusal.{Refusal}
@@ -15,10 +16,11 @@ use Rattle.grid.specs.Shapes.{sides, shapes-refusal}
 use Rattle.surface.specs.declared.sizes.Need.{Need}
 use Rattle.surface.specs.declared.surfaces.Surface.{Surface}
 use Rattle.surface.specs.Answers.{inside-at, place}
-use Rattle.surface.specs.Marches.{State, Field, field, room-refusal, marched}
+use Rattle.surface.specs.Marches.{State, Field, field, room-refusal, marched, March}
 use Rattle.surface.specs.Needs.{need}
 use Rattle.surface.specs.States.{Tables, tables, numbering, added-all}
 use Rattle.surface.specs.Views.{state}
+use Rattle.surface.proofs.Kept.{bounded, march-keeps}
 use Rattle.surface.proofs.Marching.{need-by-flags, list-by-flags, refused-shape, refused-cell, by-room, roomy, all-fit, room-for, tied-then, grown-then, vertices-fit, triangles-fit, nothing-added, marched-is}
 use Rattle.surface.proofs.surfaces.Surface.march.Needs.{then-need-gt0, else-need-gt0}
 use Rattle.surface.proofs.surfaces.Surface.march.Needs as need
@@ -30,7 +32,8 @@ returns-in-Some g c =
     let s = state (c .args .self .now) in
     let shape : shapes-refusal (s .sides) (f .sides) ≡ Some (c .in-Some .why) =
     ap (λ (t : Shape). shapes-refusal (s .sides) (sides t)) (sym (c .shape .ensures .is)) ∙ sym (c .refuses .ensures) ∙ c .in-Some .is in
-    (refused-shape f s (c .args .cell) (c .in-Some .why) shape, refl)
+    let m : March f s (c .args .cell) (Err (c .in-Some .why)) s = (refused-shape f s (c .args .cell) (c .in-Some .why) shape, refl) in
+    record { is = m; skin = march-keeps f s s (c .args .cell) (Err (c .in-Some .why)) (bounded (k .inside) (k .crossing) (c .args .level .now) (f .sides) (g .V·Volume .sample (c .args .volume .now)) (c .shape .ensures .border)) m }
 
 pub returns-in-Err : need.returns-in-Err
 returns-in-Err g c =
@@ -39,7 +42,8 @@ returns-in-Err g c =
     let s = state (c .args .self .now) in
     let shape : shapes-refusal (s .sides) (f .sides) ≡ None =
     ap (λ (t : Shape). shapes-refusal (s .sides) (sides t)) (sym (c .shape .ensures .is)) ∙ sym (c .refuses .ensures) ∙ c .in-rest .is in
-    (refused-cell f s (c .args .cell) (c .in-Err .why) shape (c .in-Err .ensures tt), refl)
+    let m : March f s (c .args .cell) (Err (c .in-Err .why)) s = (refused-cell f s (c .args .cell) (c .in-Err .why) shape (c .in-Err .ensures tt), refl) in
+    record { is = m; skin = march-keeps f s s (c .args .cell) (Err (c .in-Err .why)) (bounded (k .inside) (k .crossing) (c .args .level .now) (f .sides) (g .V·Volume .sample (c .args .volume .now)) (c .shape .ensures .border)) m }
 
 pub returns-in-Some-lacks : need.returns-in-Some-lacks
 returns-in-Some-lacks g c =
@@ -51,7 +55,8 @@ returns-in-Some-lacks g c =
     let ok = c .in-Ok .ensures tt in
     let n : c .need-of-need .result ≡ need (f .inside) (s .tables .numbered .entries) (cell-base (s .sides) (c .args .cell)) =
     c .need-of-need .ensures ∙ need-by-flags (f .inside) (s .tables .numbered .entries) (cell-base (s .sides) (c .args .cell)) (c .in-Ok .at .base) (c .flags-inside .result) (ok .base) (c .flags-inside .ensures .value) in
-    (by-room f s (c .args .cell) (c .need-of-need .result) (Some (c .in-Some-lacks .why)) shape (ok .allowed) n (sym (c .lacks .ensures) ∙ c .in-Some-lacks .is), refl)
+    let m : March f s (c .args .cell) (Err (c .in-Some-lacks .why)) s = (by-room f s (c .args .cell) (c .need-of-need .result) (Some (c .in-Some-lacks .why)) shape (ok .allowed) n (sym (c .lacks .ensures) ∙ c .in-Some-lacks .is), refl) in
+    record { is = m; skin = march-keeps f s s (c .args .cell) (Err (c .in-Some-lacks .why)) (bounded (k .inside) (k .crossing) (c .args .level .now) (f .sides) (g .V·Volume .sample (c .args .volume .now)) (c .shape .ensures .border)) m }
 
 pub add-all-requires : need.add-all-requires
 add-all-requires g c κs =
@@ -131,9 +136,11 @@ returns g c =
             ap (λ (x : Surface). state x .tables) (w .self-is) ∙ nothing-added (f .place) (f .inside) B (s .tables) (c .need-of-need .result) n tied room z,
           )
     ] in
-    let t : State = record { sides = u .sides; marks = set (u .marks) (c .args .cell) true; tables = u .tables } in (
+    let t : State = record { sides = u .sides; marks = set (u .marks) (c .args .cell) true; tables = u .tables } in
+    let m : March f s (c .args .cell) (Ok (c .need-of-need .result)) t = (
       by-room f s (c .args .cell) (c .need-of-need .result) None shape (ok .allowed) n none,
       n,
       marched-is f s t (c .args .cell) (same .0) (ap (λ (l : List Bool). set l (c .args .cell) true) (same .1)) (same .2),
       grown-then (f .place) (f .inside) B (s .tables) (c .need-of-need .result) n tied room (u .tables) (same .2),
-    )
+    ) in
+    record { is = m; skin = march-keeps f s t (c .args .cell) (Ok (c .need-of-need .result)) (bounded (k .inside) (k .crossing) (c .args .level .now) (f .sides) (g .V·Volume .sample (c .args .volume .now)) (c .shape .ensures .border)) m }
