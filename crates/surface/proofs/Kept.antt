@@ -21,7 +21,7 @@ use Rattle.topology.proofs.Members.{In, in-has, has-in}
 use Rattle.volume.specs.declared.fractions.Fraction.{Fraction}
 use Rattle.volume.specs.Borders.{Bordered}
 use Rattle.surface.specs.declared.sizes.Need.{Need}
-use Rattle.surface.specs.Answers.{answer-inside, inside-at}
+use Rattle.volume.specs.Insides.{answer-inside, inside-at}
 use Rattle.surface.specs.Law.{Bounded, Lawful, Begins-skin, Keeps-skin}
 use Rattle.surface.specs.Marches.{State, Field, field, March, marched, begun}
 use Rattle.surface.specs.Runs.{Run, begin, march, other, ask, accepted-cells}
@@ -33,7 +33,7 @@ pub bounded : {K L : Type 0} (inside : K → L → Bool) (crossing : K → K →
 bounded inside crossing h n sample border p i =
     ⊎-elim
     (λ t. t)
-    (λ t. true-false (inside-at inside crossing h sample p) i (ap (answer-inside inside crossing h) (border p t)))
+    (λ t. true-false (inside-at inside h sample p) i (ap (answer-inside inside h) (border p t)))
     (cases-bool (sampled n p))
 
 -- the marks after a run: true exactly at the cells that it accepted

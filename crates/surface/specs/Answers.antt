@@ -1,4 +1,4 @@
--- What a volume's answers say at a level: which points are inside, and where a grid edge is crossed.
+-- Where a grid edge is crossed, by a volume's answers at its ends.
 use mathlib.Core.Bool.{Bool, true, false, cond, not, _&&_}
 use Prim.Native.Nat.{ℕ, _+_, _-_, _*_, _/_, _%_}
 use Rattle.std.specs.declared.option.Option.{Option}
@@ -8,6 +8,7 @@ use Rattle.grid.specs.declared.geometry.GridEdge.{GridEdge}
 use Rattle.grid.specs.Points.{top}
 use Rattle.mesh.specs.declared.records.Coordinates.{Coordinates}
 use Rattle.volume.specs.declared.fractions.Fraction.{Fraction}
+use Rattle.volume.specs.Insides.{answer-inside}
 
 abbrev pub half : Fraction
 half = record { num = 1; den = 2 }
@@ -26,15 +27,6 @@ along e r = record {
 
 -- over any kind of samples K with levels L
 module _ {K L : Type 0} (inside : K → L → Bool) (crossing : K → K → L → Fraction) where
-  -- a sample is inside or not; where there is none, it is outside
-  abbrev pub answer-inside : L → Option K → Bool
-  answer-inside h None = false
-  answer-inside h (Some a) = inside a h
-
-  -- the points that are inside
-  abbrev pub inside-at : L → (Point → Option K) → Point → Bool
-  inside-at h sample p = answer-inside h (sample p)
-
   -- how far from the inside answer, which comes first, the crossing lies: half-way where the outside end has no sample
   abbrev pub fraction : L → Option K → Option K → Fraction
   fraction h None b = half
@@ -43,7 +35,7 @@ module _ {K L : Type 0} (inside : K → L → Bool) (crossing : K → K → L �
 
   -- how far up from the lower end it lies, in ten-thousandths
   abbrev pub from-low : L → Option K → Option K → ℕ
-  from-low h low high = cond (answer-inside h low)
+  from-low h low high = cond (answer-inside inside h low)
       (rounded (fraction h low high .num) (fraction h low high .den))
       (rounded (fraction h high low .den - fraction h high low .num) (fraction h high low .den))
 

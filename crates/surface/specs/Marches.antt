@@ -24,7 +24,8 @@ use Rattle.mesh.specs.declared.records.Vertex.{Vertex}
 use Rattle.surface.specs.declared.sizes.Need.{Need}
 use Rattle.surface.specs.Needs.{need, lack}
 use Rattle.volume.specs.declared.fractions.Fraction.{Fraction}
-use Rattle.surface.specs.Answers.{inside-at, place}
+use Rattle.volume.specs.Insides.{inside-at}
+use Rattle.surface.specs.Answers.{place}
 use Rattle.surface.specs.Rooms.{room-left}
 use Rattle.surface.specs.States.{Tables, tables, numbering, added-all}
 
@@ -42,7 +43,7 @@ pub record Field : Type 0 where
 
 -- the field of a volume of any kind of samples K with levels L: its sides and its samples at the level h
 abbrev pub field : {K L : Type 0} → (K → L → Bool) → (K → K → L → Fraction) → L → Sides → (Point → Option K) → Field
-field inside crossing h s sample = record { sides = s; inside = inside-at inside crossing h sample; place = place inside crossing h sample }
+field inside crossing h s sample = record { sides = s; inside = inside-at inside h sample; place = place inside crossing h sample }
 
 -- why a surface has no room for a need
 abbrev pub room-refusal : Tables → Need → ℕ → Option Refusal

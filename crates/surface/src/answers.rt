@@ -1,18 +1,16 @@
 ghost use mathlib.Core.Bool.{Bool, true, false};
 ghost use mathlib.Core.Path.{_≡_};
 ghost use Prim.Native.Nat.{ℕ, _+_, _-_, _*_, _/_, _%_, _^_, _≤_, _<_};
-ghost use lib.ListN.{length};
 ghost use Rattle.grid.specs.Points.{top};
 ghost use Rattle.grid.specs.Shapes.{sides};
-ghost use Rattle.grid.specs.Patterns.{corner-flags};
 ghost use Rattle.volume.specs.Borders.{Bordered};
-ghost use Rattle.surface.specs.Answers.{half, rounded as rounded-to, along as place-along, fraction as fraction-of, from-low, place as place-of, answer-inside, inside-at};
-use grid::Cell;
+ghost use Rattle.surface.specs.Answers.{half, rounded as rounded-to, along as place-along, fraction as fraction-of, from-low, place as place-of};
 use grid::GridEdge;
 use mesh::Coordinates;
 use volume::Fraction;
 use volume::SampleKind;
 use volume::Volume;
+use volume::answer_inside;
 
 // How far from the inside answer the crossing lies.
 fn fraction<K: SampleKind>(inside: Option<K>, outside: Option<K>, level: &K::Level) -> Fraction
@@ -46,22 +44,12 @@ fn rounded(m: u64, den: u64) -> u32
     ((20_000 * m + den) / (2 * den)) as u32
 }
 
-// Whether an answer is inside.
-fn is_inside<K: SampleKind>(answer: Option<K>, level: &K::Level) -> bool
-    ensures { λ r. ⌜ r ≡ answer-inside (K·SampleKind .inside) (K·SampleKind .crossing) (now (level .entry)) answer ⌝ }
-{
-    match answer {
-        None => false,
-        Some(a) => a.is_inside(level),
-    }
-}
-
 // How far up a grid edge the crossing lies, by the answers at its ends.
 fn height<K: SampleKind>(low: Option<K>, high: Option<K>, level: &K::Level) -> u32
     ensures value { λ r. ⌜ r ≡ from-low (K·SampleKind .inside) (K·SampleKind .crossing) (now (level .entry)) low high ⌝ }
     ensures few { λ r. ⌜ r ≤ 10000 ⌝ }
 {
-    if is_inside(low, level) {
+    if answer_inside(low, level) {
         let f = fraction(low, high, level);
         rounded(f.num, f.den)
     } else {
@@ -105,16 +93,4 @@ pub fn place<V: Volume>(
     let low = volume.sample_at(edge.low);
     let high = sample_on_top(volume, edge);
     along(edge, height(low, high, level))
-}
-
-// Which corners of a cell are inside.
-pub fn flags<V: Volume>(volume: &V, level: &<V::Kind as SampleKind>::Level, cell: Cell) -> [bool; 8]
-    ensures value { λ r. ⌜ r ≡ corner-flags (inside-at (Kind·SampleKind .inside) (Kind·SampleKind .crossing) (now (level .entry)) (V·Volume .sample (now (volume .entry)))) (cell .base) ⌝ }
-    ensures eight { λ r. ⌜ length r ≡ 8 ⌝ }
-{
-    let mut all = [false; 8];
-    for code in 0..8 {
-        all[code] = is_inside(volume.sample_at(cell.corner(code as u8)), level);
-    }
-    all
 }

@@ -11,7 +11,6 @@ ghost use Rattle.keymap.specs.Frees.{free};
 ghost use Rattle.surface.specs.Marches.{begun, field, cell-refusal, room-refusal, March};
 ghost use Rattle.surface.specs.Views.{state, Marchable};
 ghost use Rattle.surface.specs.Law.{Begins-skin, Keeps-skin};
-use crate::answers::flags;
 use crate::naming::add_all;
 use crate::needs::lacking;
 use crate::needs::need_of;
@@ -29,6 +28,7 @@ use keymap::KeyMap;
 use mesh::Vertex;
 use volume::SampleKind;
 use volume::Volume;
+use volume::corners_inside;
 
 // Marks no cell.
 fn clear_marks(marks: &mut [bool])
@@ -118,7 +118,7 @@ impl<'a> Surface<'a> {
             Ok(at) => at,
             Err(why) => return Err(why),
         };
-        let inside = flags(volume, level, at);
+        let inside = corners_inside(volume, level, at);
         let need = need_of(&self.map, at, &inside);
         if let Some(why) = self.lacks(need, cell) {
             return Err(why);

@@ -15,7 +15,7 @@ use Rattle.grid.specs.Cells.{cell-base, cell-triangles}
 use Rattle.grid.specs.Shapes.{sides, shapes-refusal}
 use Rattle.surface.specs.declared.sizes.Need.{Need}
 use Rattle.surface.specs.declared.surfaces.Surface.{Surface}
-use Rattle.surface.specs.Answers.{inside-at, place}
+use Rattle.surface.specs.Answers.{place}
 use Rattle.surface.specs.Marches.{State, Field, field, room-refusal, marched, March}
 use Rattle.surface.specs.Needs.{need}
 use Rattle.surface.specs.States.{Tables, tables, numbering, added-all}
@@ -54,7 +54,7 @@ returns-in-Some-lacks g c =
     ap (λ (t : Shape). shapes-refusal (s .sides) (sides t)) (sym (c .shape .ensures .is)) ∙ sym (c .refuses .ensures) ∙ c .in-rest .is in
     let ok = c .in-Ok .ensures tt in
     let n : c .need-of-need .result ≡ need (f .inside) (s .tables .numbered .entries) (cell-base (s .sides) (c .args .cell)) =
-    c .need-of-need .ensures ∙ need-by-flags (f .inside) (s .tables .numbered .entries) (cell-base (s .sides) (c .args .cell)) (c .in-Ok .at .base) (c .flags-inside .result) (ok .base) (c .flags-inside .ensures .value) in
+    c .need-of-need .ensures ∙ need-by-flags (f .inside) (s .tables .numbered .entries) (cell-base (s .sides) (c .args .cell)) (c .in-Ok .at .base) (c .corners-inside-inside .result) (ok .base) (c .corners-inside-inside .ensures .value) in
     let m : March f s (c .args .cell) (Err (c .in-Some-lacks .why)) s = (by-room f s (c .args .cell) (c .need-of-need .result) (Some (c .in-Some-lacks .why)) shape (ok .allowed) n (sym (c .lacks .ensures) ∙ c .in-Some-lacks .is), refl) in
     record { is = m; skin = march-keeps f s s (c .args .cell) (Err (c .in-Some-lacks .why)) (bounded (k .inside) (k .crossing) (c .args .level .now) (f .sides) (g .V·Volume .sample (c .args .volume .now)) (c .shape .ensures .border)) m }
 
@@ -66,12 +66,12 @@ add-all-requires g c κs =
     let B = cell-base (s .sides) (c .args .cell) in
     let ok = c .in-Ok .ensures tt in
     let n : c .need-of-need .result ≡ need (f .inside) (s .tables .numbered .entries) B =
-    c .need-of-need .ensures ∙ need-by-flags (f .inside) (s .tables .numbered .entries) B (c .in-Ok .at .base) (c .flags-inside .result) (ok .base) (c .flags-inside .ensures .value) in
+    c .need-of-need .ensures ∙ need-by-flags (f .inside) (s .tables .numbered .entries) B (c .in-Ok .at .base) (c .corners-inside-inside .result) (ok .base) (c .corners-inside-inside .ensures .value) in
     let room = roomy (c .need-of-need .result) _ _ _ (c .args .cell) (sym (c .lacks .ensures) ∙ c .in-rest-lacks .is) in
     let l = c .triangles-list .result in
     let m : l .count - 0 ≡ l .count = omega arith in
     let list : take (l .count - 0) (l .items) ≡ cell-triangles (f .inside) B =
-    ap (λ (i : ℕ). take i (l .items)) m ∙ c .triangles-list .ensures .value ∙ list-by-flags (f .inside) B (c .in-Ok .at .base) (c .flags-inside .result) (ok .base) (c .flags-inside .ensures .value) in
+    ap (λ (i : ℕ). take i (l .items)) m ∙ c .triangles-list .ensures .value ∙ list-by-flags (f .inside) B (c .in-Ok .at .base) (c .corners-inside-inside .result) (ok .base) (c .corners-inside-inside .ensures .value) in
     record {
       border = c .shape .ensures .border;
       fits = all-fit (f .place) (f .inside) B (s .tables) (c .need-of-need .result) n (c .args .self .now .tied) room (take (l .count - 0) (l .items)) list;
@@ -86,12 +86,12 @@ ghost-self-then-need-gt0 g c =
     let B = cell-base (s .sides) (c .args .cell) in
     let ok = c .in-Ok .ensures tt in
     let n : c .need-of-need .result ≡ need (f .inside) (s .tables .numbered .entries) B =
-    c .need-of-need .ensures ∙ need-by-flags (f .inside) (s .tables .numbered .entries) B (c .in-Ok .at .base) (c .flags-inside .result) (ok .base) (c .flags-inside .ensures .value) in
+    c .need-of-need .ensures ∙ need-by-flags (f .inside) (s .tables .numbered .entries) B (c .in-Ok .at .base) (c .corners-inside-inside .result) (ok .base) (c .corners-inside-inside .ensures .value) in
     let room = roomy (c .need-of-need .result) _ _ _ (c .args .cell) (sym (c .lacks .ensures) ∙ c .in-rest-lacks .is) in
     let l = c .triangles-list .result in
     let m : l .count - 0 ≡ l .count = omega arith in
     let list : take (l .count - 0) (l .items) ≡ cell-triangles (f .inside) B =
-    ap (λ (i : ℕ). take i (l .items)) m ∙ c .triangles-list .ensures .value ∙ list-by-flags (f .inside) B (c .in-Ok .at .base) (c .flags-inside .result) (ok .base) (c .flags-inside .ensures .value) in
+    ap (λ (i : ℕ). take i (l .items)) m ∙ c .triangles-list .ensures .value ∙ list-by-flags (f .inside) B (c .in-Ok .at .base) (c .corners-inside-inside .result) (ok .base) (c .corners-inside-inside .ensures .value) in
     let q = c .add-all .last in
     let t : Tables = tables (numbering (q .map .entries .now) (q .vertices .items .now) (q .vertices .count)) (q .triangles .items .now) (q .triangles .count) in
     let after : t ≡ added-all (f .place) (s .tables) (cell-triangles (f .inside) B) = c .add-all .ensures .after ∙ ap (added-all (f .place) (s .tables)) list in
@@ -113,7 +113,7 @@ returns g c =
     ap (λ (t : Shape). shapes-refusal (s .sides) (sides t)) (sym (c .shape .ensures .is)) ∙ sym (c .refuses .ensures) ∙ c .in-rest .is in
     let ok = c .in-Ok .ensures tt in
     let n : c .need-of-need .result ≡ need (f .inside) (s .tables .numbered .entries) B =
-    c .need-of-need .ensures ∙ need-by-flags (f .inside) (s .tables .numbered .entries) B (c .in-Ok .at .base) (c .flags-inside .result) (ok .base) (c .flags-inside .ensures .value) in
+    c .need-of-need .ensures ∙ need-by-flags (f .inside) (s .tables .numbered .entries) B (c .in-Ok .at .base) (c .corners-inside-inside .result) (ok .base) (c .corners-inside-inside .ensures .value) in
     let none : room-refusal (s .tables) (c .need-of-need .result) (c .args .cell) ≡ None = sym (c .lacks .ensures) ∙ c .in-rest-lacks .is in
     let room = roomy (c .need-of-need .result) _ _ _ (c .args .cell) none in
     let tied = c .args .self .now .tied in
@@ -124,7 +124,7 @@ returns g c =
           let l = w .triangles-list .result in
           let m : l .count - 0 ≡ l .count = omega arith in
           let list : take (l .count - 0) (l .items) ≡ cell-triangles (f .inside) B =
-          ap (λ (i : ℕ). take i (l .items)) m ∙ w .triangles-list .ensures .value ∙ list-by-flags (f .inside) B (c .in-Ok .at .base) (c .flags-inside .result) (ok .base) (c .flags-inside .ensures .value) in (
+          ap (λ (i : ℕ). take i (l .items)) m ∙ w .triangles-list .ensures .value ∙ list-by-flags (f .inside) B (c .in-Ok .at .base) (c .corners-inside-inside .result) (ok .base) (c .corners-inside-inside .ensures .value) in (
             ap (λ (x : Surface). state x .sides) (w .self-is),
             ap (λ (x : Surface). state x .marks) (w .self-is),
             ap (λ (x : Surface). state x .tables) (w .self-is) ∙ w .add-all .ensures .after ∙ ap (added-all (f .place) (s .tables)) list,
