@@ -1,10 +1,14 @@
 -- What an inspection answers.
 use mathlib.Core.Path.{_≡_}
+use mathlib.Core.Bool.{cond}
 use mathlib.Core.List.{List}
 use mathlib.Core.Logic.{_⊎_, inl, inr}
 use Prim.Native.Nat.{ℕ, _-_, _*_, _^_, _≤_, _<_, min}
+use lib.Dec.{ltb}
 use lib.IntN.{pos, _+ℤ_, _-ℤ_}
 use lib.ListN.{length}
+use Rattle.std.specs.declared.option.Option.{Option}
+use Rattle.std.specs.declared.option.Option.the-variants.{Some, None}
 use Rattle.std.specs.declared.result.Result.{Result}
 use Rattle.std.specs.declared.result.Result.the-variants.{Ok, Err}
 use Rattle.grid.specs.declared.geometry.Triangle.{Triangle}
@@ -44,18 +48,21 @@ Judged n ts number (inl place) =
 Judged n ts number (inr counts) =
     (number ≡ 0) × ((m q : ℕ) → Fault n ts m q → ⊥) × Counted n ts counts
 
--- the edge entries that an inspection of these triangles needs, or the largest number of 64 bits where that is less
-abbrev pub entries-needed : List (Triangle ℕ) → ℕ
-entries-needed ts = min (3 * length ts) (2 ^ 64 - 1)
+-- the edge entries that an inspection of `triangles` triangles needs, or the largest number of 64 bits where that is less
+abbrev pub entries-needed : ℕ → ℕ
+entries-needed triangles = min (3 * triangles) (2 ^ 64 - 1)
 
--- The answer to these triangles on `n` vertices, with `entries` edge entries and `records` vertex records: a refusal by the length that
--- a table needs, the edge table's first, or the verdict.
+-- The number and the place of the refusal of an inspection with `entries` edge entries and `records` vertex records, where a table is too
+-- short: the length that it needs, the edge table's first.
+abbrev pub room-refusal : ℕ → ℕ → ℕ → ℕ → Option (ℕ × ℕ)
+room-refusal vertices triangles entries records =
+    cond (ltb entries (3 * triangles)) (Some (15, entries-needed triangles)) (cond (ltb records vertices) (Some (15, vertices)) None)
+
+-- The answer to these triangles on `n` vertices: the refusal that is due, or else the verdict.
 abbrev pub Inspected : ℕ → List (Triangle ℕ) → ℕ → ℕ → Result Verdict Refusal → Type 0
-Inspected n ts entries records (Err why) =
-    ((entries < 3 * length ts) × (code why ≡ (15, entries-needed ts)))
-    ⊎ ((3 * length ts ≤ entries) × (records < n) × (code why ≡ (15, n)))
+Inspected n ts entries records (Err why) = room-refusal n (length ts) entries records ≡ Some (code why)
 Inspected n ts entries records (Ok verdict) =
-    (3 * length ts ≤ entries) × (n ≤ records) × Judged n ts (report verdict .0) (report verdict .1)
+    (room-refusal n (length ts) entries records ≡ None) × Judged n ts (report verdict .0) (report verdict .1)
 
 -- a verdict is sound exactly for a closed oriented surface
 abbrev pub Sound-for-surfaces : ℕ → List (Triangle ℕ) → Verdict → Type 0

@@ -1,11 +1,14 @@
 ghost use mathlib.Core.Path.{_≡_};
-ghost use Prim.Native.Nat.{ℕ, _*_, _≤_, _<_, _^_};
+ghost use Prim.Native.Nat.{ℕ, _*_, _/_, _≤_, _<_, _^_};
+ghost use lib.IntN.{pos, _+ℤ_, _-ℤ_};
 ghost use lib.ListN.{length};
+ghost use Rattle.std.specs.declared.option.Option.the-variants.{Some, None};
 ghost use Rattle.std.specs.Results.{Cases};
+ghost use Rattle.grid.specs.Refusals.{code};
 ghost use Rattle.mesh.specs.Surfaces.{Surface};
 ghost use Rattle.mesh.specs.MeshEdges.{One-edge-count};
 ghost use Rattle.mesh.specs.Parts.{One-part-count};
-ghost use Rattle.mesh.specs.Verdicts.{report, Counted, Judged, Inspected, Sound-for-surfaces};
+ghost use Rattle.mesh.specs.Verdicts.{report, room-refusal, Counted, Judged, Inspected, Sound-for-surfaces};
 use crate::edges::first_doubled;
 use crate::edges::first_unpaired;
 use crate::names::first_misnamed;
@@ -21,7 +24,42 @@ use grid::Refusal;
 use grid::Triangle;
 use keymap::Entry;
 
-// The counts of a closed oriented surface. Each mesh edge belongs to two of the triangles.
+// Whether the working tables are long enough.
+fn check_room(
+    vertices: u32,
+    triangles: usize,
+    entries: usize,
+    records: usize,
+) -> Result<(), Refusal>
+    ensures { λ r. ⌜ Cases r (λ _. room-refusal vertices triangles entries records ≡ None) (λ e. room-refusal vertices triangles entries records ≡ Some (code e)) ⌝ }
+{
+    if entries / 3 < triangles {
+        return Err(Refusal::WorkRoom((triangles as u64).saturating_mul(3)));
+    }
+    if records < vertices as usize {
+        return Err(Refusal::WorkRoom(u64::from(vertices)));
+    }
+    Ok(())
+}
+
+// How many mesh edges a closed oriented surface has: each belongs to two of its triangles, of three sides each.
+fn edge_count(triangles: usize) -> usize
+    requires { ⌜ 3 * triangles < 2 ^ 64 ⌝ }
+    ensures { λ r. ⌜ r ≡ 3 * triangles / 2 ⌝ }
+{
+    3 * triangles / 2
+}
+
+// The Euler number.
+fn euler_number(vertices: u32, edges: usize, triangles: usize) -> i64
+    requires edges { ⌜ edges < 2 ^ 63 ⌝ }
+    requires triangles { ⌜ triangles ≤ edges ⌝ }
+    ensures { λ r. ⌜ r ≡ (pos vertices -ℤ pos edges) +ℤ pos triangles ⌝ }
+{
+    i64::from(vertices) - edges as i64 + triangles as i64
+}
+
+// The counts of a closed oriented surface, on one vertex for each record.
 fn surface_counts(triangles: &[Triangle<u32>], records: &mut [VertexRecord]) -> Counts
     requires few { ⌜ length (now records) < 2 ^ 32 ⌝ }
     requires fits { ⌜ 3 * length (now triangles) < 2 ^ 64 ⌝ }
@@ -29,13 +67,12 @@ fn surface_counts(triangles: &[Triangle<u32>], records: &mut [VertexRecord]) -> 
     ensures { λ r. ⌜ Counted (length (now (records .entry))) (now (triangles .entry)) r ⌝ }
 {
     let vertices = records.len() as u32;
-    let edges = 3 * triangles.len() / 2;
-    let euler = i64::from(vertices) - edges as i64 + triangles.len() as i64;
+    let edges = edge_count(triangles.len());
     Counts {
         vertices,
         edges,
         triangles: triangles.len(),
-        euler,
+        euler: euler_number(vertices, edges, triangles.len()),
         parts: part_count(triangles, records),
     }
 }
@@ -83,11 +120,6 @@ pub fn inspect(
     ensures refused { λ r. ⌜ Cases r (λ _. Unit {0}) (λ _. (now (edges .exit) ≡ now (edges .entry)) × (now (records .exit) ≡ now (records .entry))) ⌝ }
     ensures determined { λ _. ⌜ One-edge-count × One-part-count ⌝ }
 {
-    if edges.len() / 3 < triangles.len() {
-        return Err(Refusal::WorkRoom((triangles.len() as u64).saturating_mul(3)));
-    }
-    if records.len() < vertex_count as usize {
-        return Err(Refusal::WorkRoom(u64::from(vertex_count)));
-    }
+    check_room(vertex_count, triangles.len(), edges.len(), records.len())?;
     Ok(judge(triangles, edges, &mut records[0..vertex_count as usize]))
 }

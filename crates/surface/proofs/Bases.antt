@@ -1,6 +1,6 @@
 -- A base of the grid has a cell number, and is the base of that cell. Assumes nothing.
-use mathlib.Core.Path.{_≡_, refl, sym, ap, _∙_}
-use Prim.Native.Nat.{ℕ, zero, _+_, _*_, _/_, _%_, _≤_, _<_}
+use mathlib.Core.Path.{_≡_, ap, _∙_}
+use Prim.Native.Nat.{ℕ, _+_, _*_, _/_, _%_, _≤_, _<_}
 use native.Mathlib.Nat.{mod-eq-of-lt, div-eq-of-lt, add-mul-mod-self-left, add-mul-div-left, mul-le-mul-left}
 use native.Mathlib.Omega.{arith}
 use Rattle.grid.specs.declared.geometry.Point.{Point}

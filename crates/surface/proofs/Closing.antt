@@ -1,25 +1,23 @@
 -- Once every cell is marched the mesh is a closed oriented surface. Assumes nothing.
 use mathlib.Core.Path.{_≡_, refl, sym, ap, subst, _∙_}
-use mathlib.Core.Bool.{Bool, true, false}
-use mathlib.Core.List.{List, [], _∷_}
-use mathlib.Core.Logic.{_⊎_, inl, inr, ⊎-elim}
-use Prim.Native.Nat.{ℕ, zero, suc, _+_, _≤_, _<_}
+use mathlib.Core.Bool.{true, false}
+use mathlib.Core.List.{List}
+use mathlib.Core.Logic.{inl, inr, ⊎-elim}
+use Prim.Native.Nat.{ℕ, zero, suc, _<_}
 use native.Mathlib.Omega.{arith}
-use lib.ListN.{length, getD, take}
-use Rattle.grid.specs.declared.geometry.Point.{Point}
+use lib.ListN.{length, getD}
 use Rattle.grid.specs.declared.geometry.GridEdge.{GridEdge}
 use Rattle.grid.specs.declared.geometry.Triangle.{Triangle}
 use Rattle.grid.specs.Points.{crossed}
-use Rattle.grid.specs.Cells.{cell-count, cell-base}
 use Rattle.mesh.specs.Triangles.{triangle-at, Corner, Runs, Has}
 use Rattle.mesh.specs.Rings.{At, GoesOn, Leads as Leads-on, stay as stay-on, step as step-on}
 use Rattle.mesh.specs.Surfaces.{Surface as Closed-surface}
 use Rattle.topology.specs.Rings.{Step, Leads, stay, on, Ring}
-use Rattle.topology.specs.Sides.{Side, Lives, start, end, rest, source, target, third, Padded}
+use Rattle.topology.specs.Sides.{Side, Lives, start, end, rest, source, third, Padded}
 use Rattle.topology.proofs.Ringed.{ringed}
 use Rattle.topology.proofs.Whole.{padded-grounded}
 use Rattle.surface.specs.Marches.{State, Field}
-use Rattle.surface.specs.Skins.{vertex-count, vertex-at, mesh, Carries, Marched, Vertices-kept, Triangles-kept, Edges-kept, All-marched}
+use Rattle.surface.specs.Skins.{vertex-count, vertex-at, mesh, Carries, Vertices-kept, Triangles-kept, All-marched}
 use Rattle.surface.proofs.Laid.{side-of, side-of-lives}
 use Rattle.surface.proofs.Models.{true-false}
 use Rattle.surface.proofs.Paired.{turn-runs, On, on-source, on-target, on-third, same-record, housed, recorded, all-apart, one-sense, edges-kept}

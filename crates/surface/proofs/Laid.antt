@@ -1,18 +1,15 @@
 -- The vertices and the triangles of a modelled surface are those of its marched cells. Assumes nothing.
 use mathlib.Core.Path.{_≡_, refl, sym, ap, ap₂, subst, _∙_}
-use mathlib.Core.Bool.{Bool, true, false}
 use mathlib.Core.List.{List, [], _∷_}
-use mathlib.Core.Logic.{_⊎_, inl, inr, ⊎-elim}
-use Prim.Native.Nat.{ℕ, zero, suc, _+_, _≤_, _<_}
+use Prim.Native.Nat.{ℕ, zero, suc, _<_}
 use native.Mathlib.Omega.{arith}
-use lib.ListN.{length, getD, take}
-use Rattle.std.specs.declared.option.Option.the-variants.{Some, None}
-use Rattle.std.specs.shelf.Lists.{Has, joined}
+use lib.ListN.{length, getD}
+use Rattle.std.specs.declared.option.Option.the-variants.{Some}
+use Rattle.std.specs.shelf.Lists.{joined}
 use Rattle.std.proofs.shelf.Lists.{length-take-le, getD-take}
-use Rattle.grid.specs.declared.geometry.Point.{Point}
 use Rattle.grid.specs.declared.geometry.GridEdge.{GridEdge}
 use Rattle.grid.specs.declared.geometry.Triangle.{Triangle}
-use Rattle.grid.specs.Cells.{cell-count, cell-base, cell-number, cell-triangles}
+use Rattle.grid.specs.Cells.{cell-base, cell-number}
 use Rattle.grid.specs.EdgeKeys.{vertex-on}
 use Rattle.grid.proofs.Numbers.{number-of-base}
 use Rattle.keymap.specs.declared.table.Entry.{Entry}
@@ -24,7 +21,7 @@ use Rattle.topology.proofs.Places.{in-getD}
 use Rattle.topology.proofs.Seats.{spot, spot-below, spot-at, Seat, seat}
 use Rattle.topology.proofs.Whole.{unique}
 use Rattle.surface.specs.Marches.{State, Field}
-use Rattle.surface.specs.Skins.{vertex-count, no-vertex, vertex-at, mesh, Carries, Marched, Met, Vertices-kept, tiles, Lies, Tile, Triangles-kept}
+use Rattle.surface.specs.Skins.{no-vertex, mesh, Carries, Marched, Vertices-kept, tiles, Lies, Tile, Triangles-kept}
 use Rattle.surface.proofs.Ends.{Ends, edge-ends, ends-edge}
 use Rattle.surface.proofs.Models.{Model}
 use Rattle.surface.proofs.Steady.{Means}

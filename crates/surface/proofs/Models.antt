@@ -2,19 +2,19 @@
 use mathlib.Core.Path.{_≡_, refl, sym, ap, subst, _∙_}
 use mathlib.Core.Bool.{Bool, true, false, cond}
 use mathlib.Core.List.{List, [], _∷_, _++_}
-use mathlib.Core.Logic.{_⊎_, inl, inr, ⊎-elim, _≢_}
-use Prim.Native.Nat.{ℕ, zero, suc, _+_, _-_, _≤_, _<_, min}
+use mathlib.Core.Logic.{inl, inr, ⊎-elim}
+use Prim.Native.Nat.{ℕ, zero, suc, _+_, _-_, _≤_, _<_}
 use native.Mathlib.Omega.{arith}
 use lib.Dec.{ltb, eqb}
-use lib.ListN.{length, getD, set, replicate, length-set, length-append}
+use lib.ListN.{length, getD, set, replicate, length-append}
 use lib.Seq.{getD-set-same, getD-set-other}
 use Rattle.std.specs.declared.option.Option.{Option}
 use Rattle.std.specs.declared.option.Option.the-variants.{Some, None}
 use Rattle.std.specs.declared.result.Result.{Result}
 use Rattle.std.specs.declared.result.Result.the-variants.{Ok, Err}
 use Rattle.std.specs.shelf.Lists.{Has, joined}
-use Rattle.std.proofs.shelf.Lists.{joined-more, getD-append-left, getD-append-add, getD-default}
-use Rattle.std.proofs.shelf.Tests.{cases-eq, cases-lt, cases-bool, ltb-true, eqb-true}
+use Rattle.std.proofs.shelf.Lists.{joined-more, getD-append-left, getD-append-add}
+use Rattle.std.proofs.shelf.Tests.{cases-eq, cases-lt, ltb-true, eqb-true}
 use Rattle.grid.specs.declared.geometry.Point.{Point}
 use Rattle.grid.specs.declared.geometry.GridEdge.{GridEdge}
 use Rattle.grid.specs.declared.geometry.Triangle.{Triangle}
@@ -26,19 +26,18 @@ use Rattle.grid.specs.Shapes.{shapes-refusal}
 use Rattle.grid.specs.EdgeKeys.{vertex-on}
 use Rattle.keymap.specs.declared.table.Entry.{Entry}
 use Rattle.keymap.specs.Frees.{free}
-use Rattle.mesh.specs.declared.records.Coordinates.{Coordinates}
 use Rattle.mesh.specs.declared.records.Vertex.{Vertex}
-use Rattle.topology.specs.Crossings.{NoRepeat, Corner-of}
+use Rattle.topology.specs.Crossings.{NoRepeat}
 use Rattle.topology.specs.Sides.{none}
 use Rattle.topology.proofs.Crossed.{cell-crossings}
 use Rattle.topology.proofs.Members.{In, in-has, has-in, in-left, in-right, in-cases}
 use Rattle.surface.specs.declared.sizes.Need.{Need}
 use Rattle.surface.specs.Marches.{State, Field, March, march-refusal, marched, begun, cell-refusal, room-refusal, else-by}
-use Rattle.surface.specs.Needs.{need, wanting}
+use Rattle.surface.specs.Needs.{need}
 use Rattle.surface.specs.Rooms.{room-left}
 use Rattle.surface.specs.Runs.{Run, begin, march, other, ask}
 use Rattle.surface.specs.Skins.{tiles}
-use Rattle.surface.specs.States.{Numbering, Tables, added-all}
+use Rattle.surface.specs.States.{Tables, added-all}
 use Rattle.surface.specs.Ties.{Tied}
 use Rattle.surface.proofs.Begun.{tied-begun, vertex-on-cleared}
 use Rattle.surface.proofs.Growth.{Ready}

@@ -1,26 +1,25 @@
 -- The mesh edges of a surface whose triangles are those of its marched cells. Assumes nothing.
 use mathlib.Core.Path.{_≡_, refl, sym, ap, subst, _∙_}
-use mathlib.Core.Bool.{Bool, true, false}
-use mathlib.Core.List.{List, [], _∷_}
+use mathlib.Core.Bool.{false}
+use mathlib.Core.List.{List}
 use mathlib.Core.Logic.{_⊎_, inl, inr, ⊎-elim}
-use Prim.Native.Nat.{ℕ, zero, suc, _+_, _≤_, _<_}
+use Prim.Native.Nat.{ℕ, zero, suc, _<_}
 use native.Mathlib.Omega.{arith}
-use lib.ListN.{length, getD, take}
+use lib.ListN.{length, getD}
 use Rattle.std.proofs.shelf.Tests.{cases-bool}
 use Rattle.grid.specs.declared.geometry.Point.{Point}
 use Rattle.grid.specs.declared.geometry.GridEdge.{GridEdge}
 use Rattle.grid.specs.declared.geometry.Triangle.{Triangle}
 use Rattle.grid.specs.Cells.{cell-count, cell-base, cell-number, cell-triangles}
 use Rattle.mesh.specs.Triangles.{triangle-at, Corner, Runs, Apart}
-use Rattle.mesh.specs.MeshEdges.{MeshEdge}
-use Rattle.topology.specs.Crossings.{Corner-of, Apart as Apart-edges}
+use Rattle.topology.specs.Crossings.{Corner-of}
 use Rattle.topology.specs.Sides.{none, Side, Lives, start, end, rest, its-triangle, source, target, third, On-wall, Opposed, Padded}
 use Rattle.topology.proofs.Crossed.{corners-differ}
-use Rattle.topology.proofs.Members.{In, in-has}
+use Rattle.topology.proofs.Members.{in-has}
 use Rattle.topology.proofs.Places.{in-getD}
 use Rattle.topology.proofs.Whole.{unique, closed, kept, padded-grounded}
 use Rattle.surface.specs.Marches.{State, Field}
-use Rattle.surface.specs.Skins.{vertex-count, no-vertex, vertex-at, mesh, Carries, Marched, Unmarched, Vertices-kept, tiles, Lies, Tile, Triangles-kept, Two-triangles, One-triangle, On-front, Edges-kept}
+use Rattle.surface.specs.Skins.{vertex-at, mesh, Carries, Marched, Vertices-kept, tiles, Lies, Tile, Triangles-kept, Two-triangles, One-triangle, On-front, Edges-kept}
 use Rattle.surface.proofs.Bases.{base-of-number, number-below}
 use Rattle.surface.proofs.Laid.{side-of, side-of-lives, same-cell}
 use Rattle.surface.proofs.Models.{true-false}

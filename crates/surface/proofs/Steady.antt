@@ -1,15 +1,14 @@
 -- What naming the triangles of a cell writes: numbers once given stay, and each new record is of a crossed edge of the cell. Assumes nothing.
 use mathlib.Core.Path.{_≡_, refl, sym, ap, subst, _∙_}
-use mathlib.Core.Bool.{Bool, true, false}
+use mathlib.Core.Bool.{Bool, true}
 use mathlib.Core.List.{List, [], _∷_}
-use mathlib.Core.Logic.{_⊎_, inl, inr, ⊎-elim, _≢_}
-use Prim.Native.Nat.{ℕ, zero, suc, _+_, _-_, _≤_, _<_, min}
+use mathlib.Core.Logic.{_⊎_, inl, inr, ⊎-elim}
+use Prim.Native.Nat.{ℕ, zero, suc, _+_, _≤_, _<_}
 use native.Mathlib.Omega.{arith}
 use lib.ListN.{length, getD, set, length-set}
 use lib.Seq.{getD-set-same, getD-set-other}
 use Rattle.std.specs.declared.option.Option.{Option}
 use Rattle.std.specs.declared.option.Option.the-variants.{Some, None}
-use Rattle.std.specs.Iters.{folded}
 use Rattle.std.specs.shelf.Lists.{Has}
 use Rattle.std.proofs.shelf.Tests.{cases-eq}
 use Rattle.grid.specs.declared.geometry.Point.{Point}
@@ -22,11 +21,10 @@ use Rattle.keymap.specs.declared.table.Entry.{Entry}
 use Rattle.mesh.specs.declared.records.Coordinates.{Coordinates}
 use Rattle.mesh.specs.declared.records.Vertex.{Vertex}
 use Rattle.topology.proofs.Crossed.{cell-crossings}
-use Rattle.topology.proofs.Members.{In, in-has}
-use Rattle.surface.specs.States.{Numbering, Tables, numbering, named, named-all, number, number-by, numbers, added, added-all}
-use Rattle.surface.specs.Ties.{Tied}
+use Rattle.topology.proofs.Members.{In}
+use Rattle.surface.specs.States.{Numbering, Tables, named, named-all, number, number-by, numbers, added, added-all}
 use Rattle.surface.proofs.Ties.{same-edge, held-now, others-kept, named-kept, named-next, none-some}
-use Rattle.surface.proofs.Growth.{Ready, Step, step, fits}
+use Rattle.surface.proofs.Growth.{Ready, step, fits}
 
 -- each vertex lies at the place of its edge
 abbrev pub Placed : (GridEdge → Coordinates) → Numbering → Type 0

@@ -1,21 +1,17 @@
 -- The counts of the mesh once every cell is marched, what an inspection then answers, and the whole law. Assumes nothing.
 use mathlib.Core.Path.{_≡_, refl, sym, ap, subst, _∙_}
-use mathlib.Core.Bool.{Bool, true, false}
 use mathlib.Core.List.{List, [], _∷_, map}
-use Prim.Native.Nat.{ℕ, zero, suc, _+_, _*_, _≤_, _<_}
+use Prim.Native.Nat.{ℕ, suc, _+_, _*_, _<_}
 use native.Mathlib.Omega.{arith}
-use lib.IntN.{ℤ, pos, _+ℤ_, _-ℤ_, _*ℤ_}
+use lib.IntN.{pos, _+ℤ_, _-ℤ_, _*ℤ_}
 use lib.ListN.{length, getD, take, length-append, length-map}
-use Rattle.std.specs.declared.result.Result.the-variants.{Ok}
-use Rattle.std.specs.shelf.Lists.{Has, sumBy, joined}
+use Rattle.std.specs.shelf.Lists.{sumBy, joined}
 use Rattle.std.proofs.shelf.Lists.{length-take-le, getD-take, getD-map}
 use Rattle.std.proofs.shelf.Signed.{ints}
 use Rattle.std.proofs.shelf.Sums.{sumBy-cons}
 use Rattle.grid.specs.declared.geometry.Point.{Point}
 use Rattle.grid.specs.declared.geometry.GridEdge.{GridEdge}
-use Rattle.grid.specs.declared.geometry.Triangle.{Triangle}
-use Rattle.grid.specs.Points.{crossed}
-use Rattle.grid.specs.Cells.{Base, cell-count, cell-base, cell-number, cell-triangles}
+use Rattle.grid.specs.Cells.{Base, cell-base, cell-number, cell-triangles}
 use Rattle.grid.proofs.Numbers.{base-within}
 use Rattle.mesh.specs.declared.records.Vertex.{Vertex}
 use Rattle.mesh.specs.declared.verdicts.Counts.{Counts}
@@ -23,10 +19,10 @@ use Rattle.mesh.specs.declared.verdicts.Verdict.{Verdict}
 use Rattle.mesh.specs.declared.verdicts.Verdict.the-variants.{Misnamed, Doubled, Unpaired, Bare, Torn, Sound}
 use Rattle.mesh.specs.MeshEdges.{MeshEdges}
 use Rattle.mesh.specs.Surfaces.{Surface as Closed-surface}
-use Rattle.mesh.specs.Verdicts.{Inspected, Judged, Counted, report}
+use Rattle.mesh.specs.Verdicts.{Judged, report}
 use Rattle.mesh.proofs.EdgeCount.{twice-edges}
 use Rattle.mesh.proofs.Judging.{surface-clear}
-use Rattle.topology.specs.Census.{N0, N1, N2, N3, V, F, over-cells}
+use Rattle.topology.specs.Census.{N0, N1, N2, N3, V, F}
 use Rattle.topology.specs.Crossings.{NoRepeat}
 use Rattle.topology.specs.Sides.{Padded}
 use Rattle.topology.proofs.Balance.{euler}
@@ -34,7 +30,7 @@ use Rattle.topology.proofs.Listed.{cells-counted, vertices-counted}
 use Rattle.topology.proofs.Members.{In, in-has, has-in, in-map, map-in, norepeat-map}
 use Rattle.surface.specs.Marches.{State, Field}
 use Rattle.surface.specs.Runs.{Run}
-use Rattle.surface.specs.Skins.{vertex-count, no-vertex, vertex-at, mesh, Carries, Marched, Vertices-kept, tiles, Triangles-kept, All-marched, census-euler, Closes, Skin}
+use Rattle.surface.specs.Skins.{vertex-count, no-vertex, vertex-at, mesh, Vertices-kept, tiles, Triangles-kept, All-marched, census-euler, Closes, Skin}
 use Rattle.surface.proofs.Bases.{base-of-number, number-below}
 use Rattle.surface.proofs.Closing.{all-carried, closed-surface}
 use Rattle.surface.proofs.Laid.{same-cell, mesh-length, vertices-kept, triangles-kept}
@@ -145,7 +141,7 @@ module _ (f : Field) (s : State) (pad : Padded (f .sides) (f .inside)) (m : Mode
       (counts, refl, c .euler ∙ (λ i. (pos (v i) -ℤ pos (counts .edges)) +ℤ pos (t i)) ∙ euler-is (counts .edges) (c .edges))
 
   closes : Closes f s
-  closes = record { closed = closes-up; euler = euler-is; sound = λ entries records verdict h. judged verdict (h .2) }
+  closes = record { closed = closes-up; euler = euler-is; sound = λ entries records verdict h. judged verdict (h .1) }
 
 model-skin : (f : Field) (s : State) → Padded (f .sides) (f .inside) → Model f s → Skin f s
 model-skin f s pad m =

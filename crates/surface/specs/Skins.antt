@@ -1,5 +1,5 @@
 -- The skin law: how the mesh of a surface lies in the grid.
-use mathlib.Core.Bool.{Bool, true, false}
+use mathlib.Core.Bool.{true, false}
 use mathlib.Core.List.{List}
 use mathlib.Core.Logic.{_⊎_}
 use mathlib.Core.Path.{_≡_}
@@ -7,7 +7,6 @@ use Prim.Native.Nat.{ℕ, _<_, _≤_}
 use lib.IntN.{ℤ, pos, _+ℤ_, _-ℤ_, _*ℤ_}
 use lib.ListN.{length, getD, take}
 use Rattle.std.specs.declared.result.Result.the-variants.{Ok}
-use Rattle.grid.specs.declared.geometry.Point.{Point}
 use Rattle.grid.specs.declared.geometry.GridEdge.{GridEdge}
 use Rattle.grid.specs.declared.geometry.Triangle.{Triangle}
 use Rattle.grid.specs.Points.{top, crossed}

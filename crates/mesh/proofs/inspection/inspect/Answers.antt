@@ -1,5 +1,4 @@
-use mathlib.Core.Path.{_≡_, refl, subst, sym, ap}
-use mathlib.Core.Logic.{inl, inr}
+use mathlib.Core.Path.{_≡_, refl, subst}
 use Prim.Native.Nat.{ℕ, _*_, _-_, _<_, _≤_}
 use native.Mathlib.Omega.{arith}
 use borrow.Author.Needs.{needs}
@@ -11,19 +10,11 @@ use Rattle.mesh.proofs.Grouping.{one-part-count}
 use Rattle.mesh.proofs.Judging.{sound-for-surfaces}
 use Rattle.mesh.proofs.inspection.inspect.Needs as need
 
-pub returns-then-edges-triangles : need.returns-then-edges-triangles
-returns-then-edges-triangles c = record {
-  answer = inl (omega arith, ap (λ (n : ℕ). (15, n)) (omega arith));
-  surface = tt;
-  refused = (refl, refl);
-  determined = (one-edge-count, one-part-count);
-}
-
-pub returns-then-records-vertex-count : need.returns-then-records-vertex-count
-returns-then-records-vertex-count c = record {
-  answer = inr (omega arith, c .if-records-vertex-count .taken, ap (λ (n : ℕ). (15, n)) (c .from .ensures));
-  surface = tt;
-  refused = (refl, refl);
+pub returns-in-Break-check-room : need.returns-in-Break-check-room
+returns-in-Break-check-room c = record {
+  answer = search needs;
+  surface = search needs;
+  refused = search needs;
   determined = (one-edge-count, one-part-count);
 }
 
@@ -31,11 +22,12 @@ pub returns : need.returns
 returns c =
     let n = c .args .vertex-count in
     let ts = c .args .triangles .now in
+    let room : n ≤ length (c .args .records .now) = search needs in
     let size : length (take (n - 0) (c .args .records .now)) ≡ n = omega (arith, length-take-le (n - 0) (c .args .records .now) (omega arith)) in
     let w = c .judge .result in
     let judged : Judged n ts (report w .0) (report w .1) = subst (λ (m : ℕ). Judged m ts (report w .0) (report w .1)) size (c .judge .ensures) in
     record {
-      answer = (omega arith, c .if-records-vertex-count .left, judged);
+      answer = (search needs, judged);
       surface = sound-for-surfaces n ts w judged;
       refused = tt;
       determined = (one-edge-count, one-part-count);

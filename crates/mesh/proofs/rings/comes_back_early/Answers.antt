@@ -3,9 +3,9 @@ use mathlib.Core.Logic.{⊎-elim}
 use Prim.Native.Nat.{ℕ, _+_, _<_}
 use native.Mathlib.Omega.{arith}
 use borrow.Author.Needs.{needs}
-use Rattle.std.proofs.shelf.Tests.{cases-eq, false≢true}
+use Rattle.std.proofs.shelf.Tests.{cases-eq}
 use Rattle.mesh.specs.EdgeTables.{turn, after}
-use Rattle.mesh.proofs.Walks.{after-none, after-more}
+use Rattle.mesh.proofs.Walks.{after-more}
 use Rattle.mesh.proofs.rings.comes_back_early.Needs as need
 
 pub loop-i-holds : need.loop-i-holds
@@ -24,15 +24,3 @@ loop-i-again c =
           (λ o. c .loop-i .inv .1 m p (omega arith) z)
           (cases-eq m i),
     )
-
-pub returns-then-at-start : need.returns-then-at-start
-returns-then-at-start c =
-    let go : ℕ → ℕ = turn (c .args .entries .now) (c .args .v) in
-    let e : c .unwrap-or-at .result ≡ after go (c .loop-i .i) (c .args .start) = search needs in
-    (λ t. record { turns = c .loop-i .i; some = omega arith; few = omega arith; back = sym e ∙ c .if-at-start .taken }, λ x. refl)
-
-pub returns : need.returns
-returns c = (
-  λ t. absurd (false≢true t),
-  λ x. absurd (c .loop-i .inv .1 (x .turns) (x .some) (omega (arith, x .few)) (x .back)),
-)
