@@ -15,7 +15,12 @@ use surface::Need;
 use surface::NeedDebug;
 use surface::NeedPartialEq;
 
-const ROOM: Sizes = Sizes { marks: 8, entries: 7, vertices: 7, triangles: 6 };
+const ROOM: Sizes = Sizes {
+    marks: 8,
+    entries: 7,
+    vertices: 7,
+    triangles: 6,
+};
 
 // A march refuses for the shape, the cell, its mark and each of the four tables, and adds what it needs where there is just room.
 #[test]
@@ -23,15 +28,57 @@ fn marches_refuse(rt: LibcRuntime) -> Result<(), Fail> {
     let heap = rt.alloc();
     let one = Shape::new(1, 1, 1)?;
     let two = Shape::new(1, 2, 1)?;
-    let need = Need { vertices: 7, triangles: 6 };
+    let need = Need {
+        vertices: 7,
+        triangles: 6,
+    };
     check_eq(last_march(heap, ROOM, one, one, &[0])?, Ok(need))?;
-    check_eq(last_march(heap, ROOM, one, two, &[0])?, Err(Refusal::OtherShape(1)))?;
-    check_eq(last_march(heap, ROOM, one, one, &[8])?, Err(Refusal::Outside(8)))?;
-    check_eq(last_march(heap, ROOM, one, one, &[0, 0])?, Err(Refusal::Marched(0)))?;
-    check_eq(last_march(heap, Sizes { marks: 3, ..ROOM }, one, one, &[3])?, Err(Refusal::NoMark(3)))?;
-    check_eq(last_march(heap, Sizes { entries: 6, ..ROOM }, one, one, &[0])?, Err(Refusal::EntryRoom(0)))?;
-    check_eq(last_march(heap, Sizes { vertices: 6, ..ROOM }, one, one, &[0])?, Err(Refusal::VertexRoom(0)))?;
-    check_eq(last_march(heap, Sizes { triangles: 5, ..ROOM }, one, one, &[0])?, Err(Refusal::TriangleRoom(0)))
+    check_eq(
+        last_march(heap, ROOM, one, two, &[0])?,
+        Err(Refusal::OtherShape(1)),
+    )?;
+    check_eq(
+        last_march(heap, ROOM, one, one, &[8])?,
+        Err(Refusal::Outside(8)),
+    )?;
+    check_eq(
+        last_march(heap, ROOM, one, one, &[0, 0])?,
+        Err(Refusal::Marched(0)),
+    )?;
+    check_eq(
+        last_march(heap, Sizes { marks: 3, ..ROOM }, one, one, &[3])?,
+        Err(Refusal::NoMark(3)),
+    )?;
+    check_eq(
+        last_march(heap, Sizes { entries: 6, ..ROOM }, one, one, &[0])?,
+        Err(Refusal::EntryRoom(0)),
+    )?;
+    check_eq(
+        last_march(
+            heap,
+            Sizes {
+                vertices: 6,
+                ..ROOM
+            },
+            one,
+            one,
+            &[0],
+        )?,
+        Err(Refusal::VertexRoom(0)),
+    )?;
+    check_eq(
+        last_march(
+            heap,
+            Sizes {
+                triangles: 5,
+                ..ROOM
+            },
+            one,
+            one,
+            &[0],
+        )?,
+        Err(Refusal::TriangleRoom(0)),
+    )
 }
 
 // The skins of the worked blocks, marched in falling order, are sound.
@@ -40,16 +87,52 @@ fn blocks_close(rt: LibcRuntime) -> Result<(), Fail> {
     let heap = rt.alloc();
     let mut ring = vec![in heap; Some(1u8); 9]?;
     ring[4] = None;
-    let flat = Counts { vertices: 92, edges: 276, triangles: 184, euler: 0, parts: 1 };
-    check_eq(verdict(heap, Shape::new(3, 3, 1)?, &ring)?, Ok(Verdict::Sound(flat)))?;
+    let flat = Counts {
+        vertices: 92,
+        edges: 276,
+        triangles: 184,
+        euler: 0,
+        parts: 1,
+    };
+    check_eq(
+        verdict(heap, Shape::new(3, 3, 1)?, &ring)?,
+        Ok(Verdict::Sound(flat)),
+    )?;
     let mut hollow = vec![in heap; Some(1u8); 27]?;
     hollow[13] = Some(2);
-    let shell = Counts { vertices: 196, edges: 576, triangles: 384, euler: 4, parts: 2 };
-    check_eq(verdict(heap, Shape::new(3, 3, 3)?, &hollow)?, Ok(Verdict::Sound(shell)))?;
-    let pair = Counts { vertices: 26, edges: 72, triangles: 48, euler: 2, parts: 1 };
-    check_eq(verdict(heap, Shape::new(2, 1, 1)?, &[Some(1), Some(1)])?, Ok(Verdict::Sound(pair)))?;
-    let none = Counts { vertices: 0, edges: 0, triangles: 0, euler: 0, parts: 0 };
-    check_eq(verdict(heap, Shape::new(1, 1, 1)?, &[None])?, Ok(Verdict::Sound(none)))
+    let shell = Counts {
+        vertices: 196,
+        edges: 576,
+        triangles: 384,
+        euler: 4,
+        parts: 2,
+    };
+    check_eq(
+        verdict(heap, Shape::new(3, 3, 3)?, &hollow)?,
+        Ok(Verdict::Sound(shell)),
+    )?;
+    let pair = Counts {
+        vertices: 26,
+        edges: 72,
+        triangles: 48,
+        euler: 2,
+        parts: 1,
+    };
+    check_eq(
+        verdict(heap, Shape::new(2, 1, 1)?, &[Some(1), Some(1)])?,
+        Ok(Verdict::Sound(pair)),
+    )?;
+    let none = Counts {
+        vertices: 0,
+        edges: 0,
+        triangles: 0,
+        euler: 0,
+        parts: 0,
+    };
+    check_eq(
+        verdict(heap, Shape::new(1, 1, 1)?, &[None])?,
+        Ok(Verdict::Sound(none)),
+    )
 }
 
 // What `skin` writes for small files and for what is no volume file.

@@ -1,1 +1,4 @@
-mod Computed
+mod Parts
+mod Rising
+mod Totals
+mod Rows

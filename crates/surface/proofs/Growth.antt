@@ -68,7 +68,7 @@ count-none f (x ∷ xs) h =
 has-at : {X : Type 0} (xs : List X) (i : ℕ) (d : X) → i < length xs → Has xs (getD xs i d)
 has-at xs i d b = (i, b, λ e. getD-default xs i e d b)
 
-option-cases : (o : Option ℕ) → ((k : ℕ) × (o ≡ Some k)) ⊎ (o ≡ None)
+pub option-cases : (o : Option ℕ) → ((k : ℕ) × (o ≡ Some k)) ⊎ (o ≡ None)
 option-cases (Some k) = inl (k, refl)
 option-cases None = inr refl
 

@@ -90,7 +90,7 @@ pub record Roomy (n : Need) (entries vertices triangles : ℕ) : Type 0 where
   pub vertex : n .vertices ≤ vertices
   pub triangle : n .triangles ≤ triangles
 
-some-none : (e : Refusal) → Some e ≡ None → ⊥
+pub some-none : (e : Refusal) → Some e ≡ None → ⊥
 some-none e p = let z : _≡_ {A = ℕ} 0 1 = cc in omega arith
 
 pub roomy : (n : Need) (entries vertices triangles cell : ℕ) → lack n entries vertices triangles cell ≡ None → Roomy n entries vertices triangles

@@ -14,7 +14,7 @@ use Rattle.std.specs.declared.result.Result.{Result}
 use Rattle.std.specs.declared.result.Result.the-variants.{Ok, Err}
 use Rattle.std.specs.shelf.Lists.{Has, joined}
 use Rattle.std.proofs.shelf.Lists.{joined-more, getD-append-left, getD-append-add}
-use Rattle.std.proofs.shelf.Tests.{cases-eq, cases-lt, ltb-true, eqb-true}
+use Rattle.std.proofs.shelf.Tests.{cases-eq, cases-lt, ltb-true, eqb-true, both-ways}
 use Rattle.grid.specs.declared.geometry.Point.{Point}
 use Rattle.grid.specs.declared.geometry.GridEdge.{GridEdge}
 use Rattle.grid.specs.declared.geometry.Triangle.{Triangle}
@@ -41,7 +41,7 @@ use Rattle.surface.specs.States.{Tables, added-all}
 use Rattle.surface.specs.Ties.{Tied}
 use Rattle.surface.proofs.Begun.{tied-begun, vertex-on-cleared}
 use Rattle.surface.proofs.Growth.{Ready}
-use Rattle.surface.proofs.Marching.{Roomy, roomy, added-records}
+use Rattle.surface.proofs.Marching.{Roomy, roomy, added-records, some-none}
 use Rattle.surface.proofs.Steady.{Placed, Means, Filled, filled, means-on}
 use Rattle.surface.proofs.Ties.{none-some}
 
@@ -68,7 +68,7 @@ getD-replicate (suc n) zero = refl
 getD-replicate (suc n) (suc c) = getD-replicate n c
 
 pub true-false : {A : Type 0} (b : Bool) → b ≡ true → b ≡ false → A
-true-false b p q = absurd (let z : _≡_ {A = ℕ} 0 1 = cc in omega arith)
+true-false b p q = absurd (both-ways b q p)
 
 model-begun : (f : Field) (marks entries : ℕ) (vs : List Vertex) (ts : List (Triangle ℕ)) → Model f (begun (f .sides) marks entries vs ts)
 unfolding begun
@@ -97,19 +97,16 @@ pub record Accepted (f : Field) (s : State) (cell : ℕ) : Type 0 where
   pub unmarked : getD (s .marks) cell false ≡ false
   pub room : room-refusal (s .tables) (need (f .inside) (s .tables .numbered .entries) (cell-base (s .sides) cell)) cell ≡ None
 
-some-none : {A : Type 0} (e : Refusal) → Some e ≡ None → A
-some-none e p = absurd (let z : _≡_ {A = ℕ} 0 1 = cc in omega arith)
-
 else-none : (o q : Option Refusal) → else-by o q ≡ None → (o ≡ None) × (q ≡ None)
-else-none (Some e) q h = some-none e h
+else-none (Some e) q h = absurd (some-none e h)
 else-none None q h = (refl, h)
 
 cond-none : (b : Bool) (o : Option Refusal) (e : Refusal) → cond b o (Some e) ≡ None → (b ≡ true) × (o ≡ None)
 cond-none true o e h = (refl, h)
-cond-none false o e h = some-none e h
+cond-none false o e h = absurd (some-none e h)
 
 cond-some : (b : Bool) (e : Refusal) → cond b (Some e) None ≡ None → b ≡ false
-cond-some true e h = some-none e h
+cond-some true e h = absurd (some-none e h)
 cond-some false e h = refl
 
 pub accepted : (f : Field) (s : State) (cell : ℕ) → march-refusal f s cell ≡ None → Accepted f s cell

@@ -24,7 +24,7 @@ use Rattle.topology.proofs.Crossed.{cell-crossings}
 use Rattle.topology.proofs.Members.{In}
 use Rattle.surface.specs.States.{Numbering, Tables, named, named-all, number, number-by, numbers, added, added-all}
 use Rattle.surface.proofs.Ties.{same-edge, held-now, others-kept, named-kept, named-next, none-some}
-use Rattle.surface.proofs.Growth.{Ready, step, fits}
+use Rattle.surface.proofs.Growth.{Ready, step, fits, option-cases}
 
 -- each vertex lies at the place of its edge
 abbrev pub Placed : (GridEdge → Coordinates) → Numbering → Type 0
@@ -35,10 +35,6 @@ pub record Means (es : List (Entry GridEdge)) (t : Triangle ℕ) (τ : Triangle 
   pub a : vertex-on es (τ .a) ≡ Some (t .a)
   pub b : vertex-on es (τ .b) ≡ Some (t .b)
   pub c : vertex-on es (τ .c) ≡ Some (t .c)
-
-option-cases : (o : Option ℕ) → ((k : ℕ) × (o ≡ Some k)) ⊎ (o ≡ None)
-option-cases (Some k) = inl (k, refl)
-option-cases None = inr refl
 
 module _ (place : GridEdge → Coordinates) (inside : Point → Bool) (B : Point) where
   -- no number changes, and only crossed edges of the cell get one

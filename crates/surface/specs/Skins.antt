@@ -62,7 +62,7 @@ pub record Met (f : Field) (s : State) (e : GridEdge) : Type 0 where
   pub low : Belongs (cell-base (f .sides) cell) (e .low)
   pub high : Belongs (cell-base (f .sides) cell) (top e)
 
--- a grid edge carries a vertex exactly when it is so, and never two; and a vertex lies where the field has it
+-- a grid edge carries a vertex exactly when it is met so, and never two; and a vertex lies where the field places it
 pub record Vertices-kept (f : Field) (s : State) : Type 0 where
   pub records : vertex-count s ≤ length (s .tables .numbered .vertices)
   pub met : (e : GridEdge) (n : ℕ) → Carries s n e → Met f s e
@@ -146,6 +146,7 @@ pub record Closes (f : Field) (s : State) : Type 0 where
 abbrev pub All-marched : Field → State → Type 0
 All-marched f s = (c : ℕ) → c < cell-count (f .sides) → Marched f s c
 
+-- the skin law: of vertices, triangles and mesh edges whichever cells are marched, and of the whole mesh once all are
 pub record Skin (f : Field) (s : State) : Type 0 where
   pub vertices : Vertices-kept f s
   pub triangles : Triangles-kept f s
