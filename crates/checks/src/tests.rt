@@ -2,14 +2,19 @@ use crate::tables::Sizes;
 use crate::tables::last_march;
 use crate::tables::verdict;
 use extract::skin;
+use grid::GridEdge;
 use grid::Refusal;
 use grid::RefusalDebug;
 use grid::RefusalPartialEq;
 use grid::Shape;
+use grid::Triangle;
+use keymap::Entry;
 use mesh::Counts;
 use mesh::Verdict;
 use mesh::VerdictDebug;
 use mesh::VerdictPartialEq;
+use mesh::Vertex;
+use std::mem::size_of;
 use std::test::*;
 use surface::Need;
 use surface::NeedDebug;
@@ -79,6 +84,14 @@ fn marches_refuse(rt: LibcRuntime) -> Result<(), Fail> {
         )?,
         Err(Refusal::TriangleRoom(0)),
     )
+}
+
+// The records are small: 12 bytes an entry, 16 a vertex, 12 a triangle.
+#[test]
+fn records_are_small() -> Result<(), Fail> {
+    check(size_of::<Entry<GridEdge>>() <= 12)?;
+    check(size_of::<Vertex>() <= 16)?;
+    check(size_of::<Triangle<u32>>() <= 12)
 }
 
 // The skins of the worked blocks, marched in falling order, are sound.

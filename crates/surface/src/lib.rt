@@ -7,7 +7,6 @@ mod records;
 mod sizes;
 mod surfaces;
 
-pub use records::Records;
 pub use sizes::Counts;
 pub use sizes::CountsDebug;
 pub use sizes::CountsPartialEq;
