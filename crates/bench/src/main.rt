@@ -1,5 +1,7 @@
 // Lays the skin of a ball in a block of 254 samples a side, the largest there is, once from a phantom and once from a table of its samples.
 // With a number as argument, it does so that many times, and prints the least time of each.
+#![tactic(auto)]
+
 mod measuring;
 
 use crate::measuring::measure;

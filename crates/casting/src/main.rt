@@ -1,4 +1,6 @@
 // Makes castings, lays their skins, inspects them and compares them with the census; then inspects a broken mesh.
+#![tactic(auto)]
+
 mod study;
 
 use crate::study::{judge, study};

@@ -1,5 +1,7 @@
 // Tests of the crates, each through its public calls, and of the crates together: each refusal through the calls that give it, and the
 // worked meshes and pages.
+#![tactic(auto)]
+
 #[cfg(test)]
 mod censuses;
 #[cfg(test)]

@@ -1,4 +1,6 @@
 // A map from keys to numbers over a lent slice of entries, by open addressing with linear probing.
+#![tactic(auto)]
+
 mod map;
 mod table;
 

@@ -36,16 +36,16 @@ impl<'a, K: Key + Drop> KeyMap<'a, K> {
 
     // The number held for `key`.
     pub fn get(&self, key: &K) -> Option<u32>
-        ensures { result ≡ lookup meaning hashed self.now.entries.now (meaning key.now) }
+        ensures { result ≡ lookup K.meaning K.hashed self.now.entries.now (K.meaning key.now) }
     {
         number_of(self.entries, key)
     }
 
     // Holds `number` for `key`, in place of the number held for it, if any. A full map takes no new key, and is left as it is.
     pub fn insert(&mut self, key: K, number: u32) -> Result<(), Full>
-        ensures entries { self.new.entries.now ≡ put self.old.entries.now (slot meaning hashed self.old.entries.now (meaning key)) key number }
-        ensures answer { is_ok result ≡ is_some (slot meaning hashed self.old.entries.now (meaning key)) }
-        ensures maps { Sound meaning hashed self.old.entries.now → Maps meaning hashed self.old.entries.now self.new.entries.now key number }
+        ensures entries { self.new.entries.now ≡ put self.old.entries.now (slot K.meaning K.hashed self.old.entries.now (K.meaning key)) key number }
+        ensures answer { is_ok result ≡ is_some (slot K.meaning K.hashed self.old.entries.now (K.meaning key)) }
+        ensures maps { Sound K.meaning K.hashed self.old.entries.now → Maps K.meaning K.hashed self.old.entries.now self.new.entries.now key number }
         ensures full { is_ok result ≡ false → Crowded self.old.entries.now }
         ensures same { self.new.entries.ghost_name ≡ self.old.entries.ghost_name }
     {

@@ -31,8 +31,8 @@ pub struct Full;
 // Where probing for `key` ends: from its start entry on, after the last at the first, until the key or a free entry is met.
 fn find<K: Key>(entries: &[Entry<K>], key: &K) -> Option<usize>
     ensures within { IfSome result (λ i. i < length entries.now) }
-    ensures found { result ≡ slot meaning hashed entries.now (meaning key.now) }
-    ensures maps { (number : ℕ) → Sound meaning hashed entries.now → Maps meaning hashed entries.now (put entries.now result key.now number) key.now number }
+    ensures found { result ≡ slot K.meaning K.hashed entries.now (K.meaning key.now) }
+    ensures maps { (number : ℕ) → Sound K.meaning K.hashed entries.now → Maps K.meaning K.hashed entries.now (put entries.now result key.now number) key.now number }
     ensures full { is_some result ≡ false → Crowded entries.now }
 {
     let n = entries.len();
@@ -59,7 +59,7 @@ fn find<K: Key>(entries: &[Entry<K>], key: &K) -> Option<usize>
 
 // The number that `entries` hold for `key`.
 pub fn number_of<K: Key>(entries: &[Entry<K>], key: &K) -> Option<u32>
-    ensures { result ≡ lookup meaning hashed entries.now (meaning key.now) }
+    ensures { result ≡ lookup K.meaning K.hashed entries.now (K.meaning key.now) }
 {
     match find(entries, key) {
         None => None,
@@ -73,9 +73,9 @@ pub fn number_of<K: Key>(entries: &[Entry<K>], key: &K) -> Option<u32>
 // Has `entries` hold `number` for `key`, in place of the number held for it, if any. A full table takes no new key, and is left as
 // it is.
 pub fn store<K: Key + Drop>(entries: &mut [Entry<K>], key: K, number: u32) -> Result<(), Full>
-    ensures entries { entries.new ≡ put entries.old (slot meaning hashed entries.old (meaning key)) key number }
-    ensures answer { is_ok result ≡ is_some (slot meaning hashed entries.old (meaning key)) }
-    ensures maps { Sound meaning hashed entries.old → Maps meaning hashed entries.old entries.new key number }
+    ensures entries { entries.new ≡ put entries.old (slot K.meaning K.hashed entries.old (K.meaning key)) key number }
+    ensures answer { is_ok result ≡ is_some (slot K.meaning K.hashed entries.old (K.meaning key)) }
+    ensures maps { Sound K.meaning K.hashed entries.old → Maps K.meaning K.hashed entries.old entries.new key number }
     ensures full { is_ok result ≡ false → Crowded entries.old }
 {
     match find(entries, &key) {

@@ -1,3 +1,5 @@
+#![tactic(auto)]
+
 mod edges;
 mod inspection;
 mod names;

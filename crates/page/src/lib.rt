@@ -1,3 +1,5 @@
+#![tactic(auto)]
+
 mod states;
 mod text;
 mod whole;

@@ -1,4 +1,6 @@
 // Why calls are refused: one enum for all crates, with its numbers and places.
+#![tactic(auto)]
+
 mod refusals;
 
 pub use refusals::{Code, Refusal};

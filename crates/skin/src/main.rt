@@ -1,3 +1,5 @@
+#![tactic(auto)]
+
 use extract::skin;
 use std::io::{Read, Write};
 

@@ -1,3 +1,5 @@
+#![tactic(auto)]
+
 ghost use Rattle.topology.specs.Crossings.{TetCrossings, CellCrossings, CornersDiffer, EdgesDiffer, OneLess, OnesCount, TetCount, TriangleCount};
 ghost use Rattle.topology.specs.Sides.{Unique, Closed, Kept, PaddedGrounded};
 ghost use Rattle.topology.specs.Rings.{Ringed};

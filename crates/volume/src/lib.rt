@@ -1,3 +1,5 @@
+#![tactic(auto)]
+
 mod densities;
 mod files;
 mod fractions;
