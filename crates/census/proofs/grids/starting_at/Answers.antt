@@ -8,12 +8,12 @@ use Rattle.census.specs.Counts.{point_codes, edge_codes, flag_starting}
 use Rattle.census.proofs.Starts.{tails, base_flag, edges_by_flags, triangles_by_flags, tetrahedra_by_flags, point_starts, none_start}
 use Rattle.census.proofs.grids.starting_at.Goals as goal
 
-pub returns-then-not-point-inside : goal.returns-then-not-point-inside
+pub returns-then-not-point_inside : goal.returns-then-not-point_inside
 unfolding tetrahedra
-returns-then-not-point-inside g c =
+returns-then-not-point_inside g c =
     let inside : Point → Bool = inside_at g.Kind.SampleKind.inside c.args.level.now (g.V.Volume.sample c.args.volume.now) in
     let P : Point = c.args.cell.base in
-    let e : inside P ≡ false = sym c.if-not-point-inside.ensures.value in
+    let e : inside P ≡ false = sym c.if-not-point_inside.ensures.value in
     record {
       points = sym (none_start inside P (tails point_codes) e);
       edges = sym (none_start inside P (tails edge_codes) e);
@@ -22,31 +22,31 @@ returns-then-not-point-inside g c =
       few = (omega arith, omega arith, omega arith, omega arith);
     }
 
-pub edges-from-requires : goal.edges-from-requires
-edges-from-requires g c =
+pub edges_from-requires : goal.edges_from-requires
+edges_from-requires g c =
     let inside : Point → Bool = inside_at g.Kind.SampleKind.inside c.args.level.now (g.V.Volume.sample c.args.volume.now) in
-    base_flag inside c.args.cell.base c.corners-inside-at.result c.corners-inside-at.ensures.value c.if-not-point-inside.ensures.value
+    base_flag inside c.args.cell.base c.corners_inside-at.result c.corners_inside-at.ensures.value c.if-not-point_inside.ensures.value
 
-pub triangles-from-requires : goal.triangles-from-requires
-triangles-from-requires g c =
+pub triangles_from-requires : goal.triangles_from-requires
+triangles_from-requires g c =
     let inside : Point → Bool = inside_at g.Kind.SampleKind.inside c.args.level.now (g.V.Volume.sample c.args.volume.now) in
-    base_flag inside c.args.cell.base c.corners-inside-at.result c.corners-inside-at.ensures.value c.if-not-point-inside.ensures.value
+    base_flag inside c.args.cell.base c.corners_inside-at.result c.corners_inside-at.ensures.value c.if-not-point_inside.ensures.value
 
-pub tetrahedra-from-requires : goal.tetrahedra-from-requires
-tetrahedra-from-requires g c =
+pub tetrahedra_from-requires : goal.tetrahedra_from-requires
+tetrahedra_from-requires g c =
     let inside : Point → Bool = inside_at g.Kind.SampleKind.inside c.args.level.now (g.V.Volume.sample c.args.volume.now) in
-    base_flag inside c.args.cell.base c.corners-inside-at.result c.corners-inside-at.ensures.value c.if-not-point-inside.ensures.value
+    base_flag inside c.args.cell.base c.corners_inside-at.result c.corners_inside-at.ensures.value c.if-not-point_inside.ensures.value
 
 pub returns : goal.returns
 returns g c =
     let inside : Point → Bool = inside_at g.Kind.SampleKind.inside c.args.level.now (g.V.Volume.sample c.args.volume.now) in
     let P : Point = c.args.cell.base in
-    let by : (codes : List (List ℕ)) → flag_starting c.corners-inside-at.result codes ≡ flag_starting (corner_flags inside P) codes = λ codes.
-    ap (λ (l : List Bool). flag_starting l codes) c.corners-inside-at.ensures.value in
+    let by : (codes : List (List ℕ)) → flag_starting c.corners_inside-at.result codes ≡ flag_starting (corner_flags inside P) codes = λ codes.
+    ap (λ (l : List Bool). flag_starting l codes) c.corners_inside-at.ensures.value in
     record {
-      points = point_starts inside P c.if-not-point-inside.ensures.value;
+      points = point_starts inside P c.if-not-point_inside.ensures.value;
       edges = c.edges_from.ensures.value ∙ by edge_codes ∙ edges_by_flags inside P;
-      triangles = c.triangles-from.ensures.value ∙ by triangle_codes ∙ triangles_by_flags inside P;
-      tetrahedra = c.tetrahedra-from.ensures.value ∙ by tetrahedra ∙ tetrahedra_by_flags inside P;
+      triangles = c.triangles_from.ensures.value ∙ by triangle_codes ∙ triangles_by_flags inside P;
+      tetrahedra = c.tetrahedra_from.ensures.value ∙ by tetrahedra ∙ tetrahedra_by_flags inside P;
       few = (omega arith, omega arith, omega arith, omega arith);
     }

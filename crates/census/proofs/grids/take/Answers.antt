@@ -10,7 +10,7 @@ use Rattle.census.specs.Counts.{point_codes, edge_codes, starting}
 use Rattle.census.proofs.Starts.{tails}
 use Rattle.census.proofs.Totals.{SumTo, sum_more, sum_all, padded}
 use Rattle.census.proofs.grids.take.Goals as goal
-use Rattle.census.proofs.grids.take.Goals.{in-Some, in-default}
+use Rattle.census.proofs.grids.take.Goals.{in-Some, in_default}
 
 pub loop-number-preserved : goal.loop-number-preserved
 loop-number-preserved g c =
@@ -21,16 +21,16 @@ loop-number-preserved g c =
       | in-Some w ↦
           let more : (codes : List (List ℕ)) (m s t : ℕ) → SumTo n inside codes k m → s ≡ starting inside codes w.in-Some.cell.base → s ≤ 12 → t ≡ m + s → SumTo n inside codes (k + 1) t = λ codes m s t.
           sum_more n inside codes k m s t w.in-Some.cell.base w.in-Some.ensures.1 in
-          let here = w.starting-at-here.ensures in (
+          let here = w.starting_at-here.ensures in (
             more point_codes _ _ _ c.loop-number.invariant.0 here.points here.few.0 w.points-is,
             more edge_codes _ _ _ c.loop-number.invariant.1 here.edges here.few.1 w.edges-is,
             more triangle_codes _ _ _ c.loop-number.invariant.2 here.triangles here.few.2 w.triangles_is,
             more tetrahedra _ _ _ c.loop-number.invariant.3 here.tetrahedra here.few.3 w.tetrahedra-is,
           )
-      | in-default w ↦
-          let beyond : cell_count n ≤ k = w.in-default.ensures in
-          let before : k < c.cell-count-number-end.result = c.loop-number-test.true in
-          absurd (omega (arith, c.cell-count-number-end.ensures))
+      | in_default w ↦
+          let beyond : cell_count n ≤ k = w.in_default.ensures in
+          let before : k < c.cell_count-number-end.result = c.loop-number-test.true in
+          absurd (omega (arith, c.cell_count-number-end.ensures))
     ]
 
 pub returns : goal.returns
@@ -42,9 +42,9 @@ returns g c =
     let e : s ≡ n = ap sides c.shape-shape.ensures.is in
     let k : ℕ = c.loop-number.number in
     let pad : Padded n inside = padded g.Kind.SampleKind.inside c.args.level.now n (g.V.Volume.sample c.args.volume.now) c.shape-shape.ensures.border in
-    let low : c.cell-count-number-end.result ≤ k = c.loop-number-test.false in
-    let high : k ≤ c.cell-count-number-end.result = c.loop-number.auto.number-end in
-    let all : k ≡ cell_count s = omega (arith, c.cell-count-number-end.ensures) in
+    let low : c.cell_count-number-end.result ≤ k = c.loop-number-test.false in
+    let high : k ≤ c.cell_count-number-end.result = c.loop-number.auto.number-end in
+    let all : k ≡ cell_count s = omega (arith, c.cell_count-number-end.ensures) in
     let every : k ≡ cell_count n = all ∙ ap cell_count e in
     let moved : (codes : List (List ℕ)) (m : ℕ) → SumTo s inside codes k m → SumTo n inside codes k m = λ codes m. subst (λ (v : Sides). SumTo v inside codes k m) e in
     let points = sum_all n inside pad (tails point_codes) k _ every (moved point_codes c.loop-number.points c.loop-number.invariant.0) in

@@ -11,8 +11,8 @@ use Rattle.extract.specs.Rising.{rising}
 use Rattle.extract.proofs.Rises.{page_refused, page_answered}
 use Rattle.extract.proofs.cells.extract_page.Goals as goal
 
-pub returns-in-err-march-all : goal.returns-in-err-march-all
-returns-in-err-march-all g c =
+pub returns-in_err-march_all : goal.returns-in_err-march_all
+returns-in_err-march_all g c =
     let k = g.Kind.SampleKind in
     let f = field k.inside k.crossing c.args.level.now (sides (g.V.Volume.shaped c.args.volume.now)) (g.V.Volume.sample c.args.volume.now) in
     let s : State = begun f.sides (length c.args.marks.now) (length c.args.entries.now) c.args.vertices.now c.args.triangles.now in
@@ -20,7 +20,7 @@ returns-in-err-march-all g c =
     c.begin-surface.ensures.is ∙ ap (λ (h : Shape). begun (sides h) (length c.args.marks.now) (length c.args.entries.now) c.args.vertices.now c.args.triangles.now) c.shape.ensures.is in
     let p = err_from_is_err_and c.from-residual.result c.from-residual.ensures.1 in
     rw (p.1, p.2)
-    (page_refused f s (length c.args.page.now) _ (ap (λ (q : State). rising f q (cell_count f.sides)) (sym start) ∙ c.in-err-march-all.ensures))
+    (page_refused f s (length c.args.page.now) _ (ap (λ (q : State). rising f q (cell_count f.sides)) (sym start) ∙ c.in_err-march_all.ensures))
 
 pub returns : goal.returns
 returns g c =
@@ -29,7 +29,7 @@ returns g c =
     let s : State = begun f.sides (length c.args.marks.now) (length c.args.entries.now) c.args.vertices.now c.args.triangles.now in
     let start : state c.begin-surface.result ≡ s =
     c.begin-surface.ensures.is ∙ ap (λ (h : Shape). begun (sides h) (length c.args.marks.now) (length c.args.entries.now) c.args.vertices.now c.args.triangles.now) c.shape.ensures.is in
-    page_answered f s (state c.march-all.new.surface) _ c.args.page.now c.write-page.new.buffer c.write-page.result
-    (ap (λ (q : State). rising f q (cell_count f.sides)) (sym start) ∙ c.in-ok-march-all.ensures)
+    page_answered f s (state c.march_all.new.surface) _ c.args.page.now c.write_page.new.buffer c.write_page.result
+    (ap (λ (q : State). rising f q (cell_count f.sides)) (sym start) ∙ c.in_ok-march_all.ensures)
     (λ i. mesh (map (λ (v : Vertex). v.at) (c.vertices.ensures i)) (c.triangles.ensures i))
-    c.write-page.ensures
+    c.write_page.ensures

@@ -7,9 +7,9 @@ use Rattle.grid.specs.Cells.{tetrahedra, corner, vertex, edge}
 use Rattle.grid.proofs.Rows.{corners_rise}
 use Rattle.grid.proofs.marching.edge_at.Goals as goal
 
-pub overflow-sub-result : goal.overflow-sub-result
+pub overflow_sub-result : goal.overflow_sub-result
 unfolding tetrahedra corner
-overflow-sub-result c =
+overflow_sub-result c =
     let p = c.positions-m in
     let h = corners_rise c.args.t p.result.0 p.result.1 c.requires p.ensures.rises p.ensures.small in omega arith
 

@@ -18,8 +18,8 @@ loop-i-preserved c =
     let i = c.loop-i.i in
     let items = c.args.items.now in
     let at = c.args.at in
-    let b : i < length r = omega (arith, row_length (odd t) c.args.mask, c.triangles-in-i-end.ensures.value) in
-    let x : c.place.result ≡ f (get_or r i no_case) = c.place.ensures ∙ ap f c.case-triangle.ensures in (
+    let b : i < length r = omega (arith, row_length (odd t) c.args.mask, c.triangles_in-i-end.ensures.value) in
+    let x : c.place.result ≡ f (get_or r i no_case) = c.place.ensures ∙ ap f c.case_triangle.ensures in (
       omega arith,
       (λ j. set (c.loop-i.invariant.1 j) (c.loop-i.invariant.0 j) (x j)) ∙ sets_map f items at r i no_case b,
     )
@@ -30,10 +30,10 @@ returns c =
     let f = placed c.args.cell.base t in
     let r = row (odd t) c.args.mask in
     let n = row_length (odd t) c.args.mask in
-    let v = c.triangles-in-i-end.ensures.value in
+    let v = c.triangles_in-i-end.ensures.value in
     let all = take_all c.loop-i.i r (omega arith) in
     record {
       items = c.loop-i.invariant.1 ∙ ap (λ (xs : List _). sets c.args.items.now c.args.at (map f xs)) all;
       end = omega arith;
-      few = omega (arith, c.triangles-in-i-end.ensures.few);
+      few = omega (arith, c.triangles_in-i-end.ensures.few);
     }

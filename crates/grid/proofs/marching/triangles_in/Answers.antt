@@ -10,5 +10,5 @@ returns-in-1 c =
 pub returns-in-2 : goal.returns-in-2
 returns-in-2 c = let e = count_by_ones c.args.mask c.requires in record { value = search rules; few = omega arith }
 
-pub returns-in-default : goal.returns-in-default
-returns-in-default c = let e = count_by_ones c.args.mask c.requires in record { value = search rules; few = omega arith }
+pub returns-in_default : goal.returns-in_default
+returns-in_default c = let e = count_by_ones c.args.mask c.requires in record { value = search rules; few = omega arith }

@@ -15,8 +15,8 @@ use Rattle.mesh.proofs.edges.first_doubled.Goals as goal
 pub loop-k-init : goal.loop-k-init
 loop-k-init c =
     let n = length c.args.entries.now in
-    let es = c.clear-all.new.entries in
-    let clear : es ≡ replicate n Free = c.clear-all.ensures in
+    let es = c.clear_all.new.entries in
+    let clear : es ≡ replicate n Free = c.clear_all.ensures in
     let all : free es ≡ n = ap free clear ∙ free_cleared DirectedEdge n in (
       λ k h d. omega arith,
       subst (λ (fs : List (Entry DirectedEdge)). Noted c.args.triangles.now 0 fs) (sym clear) (noted_none c.args.triangles.now n),

@@ -6,8 +6,8 @@ use Rattle.mesh.proofs.Grouping.{one_part_count}
 use Rattle.mesh.proofs.Judging.{sound_for_surfaces}
 use Rattle.mesh.proofs.inspection.inspect.Goals as goal
 
-pub returns-in-err-check-room : goal.returns-in-err-check-room
-returns-in-err-check-room c = record {
+pub returns-in_err-check_room : goal.returns-in_err-check_room
+returns-in_err-check_room c = record {
   answer = search rules;
   surface = search rules;
   refused = search rules;

@@ -11,8 +11,8 @@ use Rattle.mesh.proofs.parts.part_count.Goals as goal
 pub loop-t-init : goal.loop-t-init
 unfolding labels
 loop-t-init c =
-    forest_own c.part-all.new.records
-    (subst (λ (n : ℕ). Own c.part-all.new.records n) (sym c.part-all.auto.records) c.part-all.ensures)
+    forest_own c.part_all.new.records
+    (subst (λ (n : ℕ). Own c.part_all.new.records n) (sym c.part_all.auto.records) c.part_all.ensures)
 
 pub join-requires-in-loop-t : goal.join-requires-in-loop-t
 join-requires-in-loop-t c =
@@ -20,7 +20,7 @@ join-requires-in-loop-t c =
     let ts = c.args.triangles.now in
     let F = c.join.ensures (labels (λ x. x) (take i ts)) (labels_settled (λ x. x) (take i ts) settled_none) c.loop-t.invariant in
     let corners = c.requires.below i c.loop-t-test.true in
-    record { lowered = record { low = F.low }; u-within = omega arith; v-within = omega arith }
+    record { lowered = record { low = F.low }; u_within = omega arith; v_within = omega arith }
 
 pub loop-t-preserved : goal.loop-t-preserved
 loop-t-preserved c =
@@ -40,4 +40,4 @@ returns c =
     let all = take_all c.loop-t.t-index ts c.loop-t-test.false in
     let F = subst (λ (us : List (Triangle ℕ)). Forest (labels (λ x. x) us) ps) all c.loop-t.invariant in
     let e : length ps ≡ length c.args.records.now = omega arith in
-    subst (λ (n : ℕ). Groups ts n c.count-roots.result) e (groups ts ps c.count-roots.result F c.count-roots.ensures)
+    subst (λ (n : ℕ). Groups ts n c.count_roots.result) e (groups ts ps c.count_roots.result F c.count_roots.ensures)

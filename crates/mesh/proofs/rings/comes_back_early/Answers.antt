@@ -13,7 +13,7 @@ loop-i-preserved c =
     let go : ℕ → ℕ = turn c.args.entries.now c.args.v in
     let i = c.loop-i.i in
     let s = c.args.start in
-    let e : c.unwrap-or-at.result ≡ after go i s = search rules in (
+    let e : c.unwrap_or-at.result ≡ after go i s = search rules in (
       ap go e ∙ sym (after_more go i s),
       λ m p q z. ⊎_elim
           (λ w. c.if-at-start.false (e ∙ ap (λ (n : ℕ). after go n s) (sym w) ∙ z))

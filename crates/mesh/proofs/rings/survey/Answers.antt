@@ -5,7 +5,7 @@ use Rattle.mesh.proofs.Tallies.{surveyed_none, surveyed_more, degree_le}
 use Rattle.mesh.proofs.rings.survey.Goals as goal
 
 pub loop-k-init : goal.loop-k-init
-loop-k-init c = surveyed_none c.args.triangles.now c.clear-records.new.records c.clear-records.ensures
+loop-k-init c = surveyed_none c.args.triangles.now c.clear_records.new.records c.clear_records.ensures
 
 pub tally-requires : goal.tally-requires
 tally-requires c =

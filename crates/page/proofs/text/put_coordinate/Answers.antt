@@ -8,7 +8,7 @@ unfolding coordinate
 returns c = record {
   wrote =
       then
-      (then c.put-number-point.ensures c.put-byte-a.ensures)
-      (then c.put-byte-b.ensures (then c.put-byte-c.ensures (then c.put-byte-d.ensures c.put-byte.ensures)));
+      (then c.put_number-point.ensures c.put_byte-a.ensures)
+      (then c.put_byte-b.ensures (then c.put_byte-c.ensures (then c.put_byte-d.ensures c.put_byte.ensures)));
   stops = omega arith;
 }

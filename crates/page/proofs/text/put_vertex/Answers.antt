@@ -5,4 +5,4 @@ use Rattle.page.proofs.text.put_vertex.Goals as goal
 pub returns : goal.returns
 unfolding vertex_line
 returns c =
-    then (then (then (then (then c.put-coordinate-a.ensures.wrote c.put-byte-b.ensures) c.put-coordinate-c.ensures.wrote) c.put-byte-d.ensures) c.put-coordinate-e.ensures.wrote) c.put-byte.ensures
+    then (then (then (then (then c.put_coordinate-a.ensures.wrote c.put_byte-b.ensures) c.put_coordinate-c.ensures.wrote) c.put_byte-d.ensures) c.put_coordinate-e.ensures.wrote) c.put_byte.ensures

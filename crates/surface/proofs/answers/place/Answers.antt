@@ -8,4 +8,4 @@ returns g c =
     let k = g.Kind.SampleKind in
     let h = c.args.level.now in
     c.along.ensures
-    ∙ ap (along c.args.edge) (c.height.ensures.value ∙ (λ i. from_low k.inside k.crossing h (c.sample-at-low.ensures i) (c.sample-on-top-high.ensures i)))
+    ∙ ap (along c.args.edge) (c.height.ensures.value ∙ (λ i. from_low k.inside k.crossing h (c.sample_at-low.ensures i) (c.sample_on_top-high.ensures i)))

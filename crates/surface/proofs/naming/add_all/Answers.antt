@@ -15,14 +15,14 @@ loop-triangle-preserved g c =
     let p = place k.inside k.crossing c.args.level.now (g.V.Volume.sample c.args.volume.now) in
     let l = c.loop-triangle in
     let inv = l.invariant in
-    let done = c.add-triangle.ensures in
+    let done = c.add_triangle.ensures in
     let count = added_count p _ _ _ done.after in (
       added_more p _ _ _ c.args.list.now l.triangle-index _ c.loop-triangle-test.true inv.0 done.after,
       omega (arith, count),
       done.long ∙ inv.2,
       done.same_map ∙ inv.3,
-      done.same-vertices ∙ inv.4,
-      done.same-triangles ∙ inv.5,
+      done.same_vertices ∙ inv.4,
+      done.same_triangles ∙ inv.5,
     )
 
 pub returns : goal.returns
@@ -32,6 +32,6 @@ returns g c =
     record {
       after = added_all_of (place k.inside k.crossing c.args.level.now (g.V.Volume.sample c.args.volume.now)) _ _ c.args.list.now l.triangle-index c.loop-triangle-test.false l.invariant.0;
       same_map = l.invariant.3;
-      same-vertices = l.invariant.4;
-      same-triangles = l.invariant.5;
+      same_vertices = l.invariant.4;
+      same_triangles = l.invariant.5;
     }

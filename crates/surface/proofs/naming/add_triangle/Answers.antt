@@ -8,9 +8,9 @@ pub returns : goal.returns
 returns g c =
     let k = g.Kind.SampleKind in
     let t = c.args.triangles.now in
-    let A = c.vertex-number-a in
-    let B = c.vertex-number-b in
-    let C = c.vertex-number-c in
+    let A = c.vertex_number-a in
+    let B = c.vertex_number-b in
+    let C = c.vertex_number-c in
     record {
       after = added_made (place k.inside k.crossing c.args.level.now (g.V.Volume.sample c.args.volume.now))
           (numbering c.args.map.now.entries.now c.args.vertices.now.items.now c.args.vertices.now.count)
@@ -22,6 +22,6 @@ returns g c =
           c.push.ensures.items c.push.ensures.count;
       long = ap length c.push.ensures.items ∙ length-set t.items.now t.count _;
       same_map = C.ensures.same_map ∙ B.ensures.same_map ∙ A.ensures.same_map;
-      same-vertices = C.ensures.same-vertices ∙ B.ensures.same-vertices ∙ A.ensures.same-vertices;
-      same-triangles = c.push.ensures.same;
+      same_vertices = C.ensures.same_vertices ∙ B.ensures.same_vertices ∙ A.ensures.same_vertices;
+      same_triangles = c.push.ensures.same;
     }

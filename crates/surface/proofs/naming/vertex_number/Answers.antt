@@ -17,17 +17,17 @@ returns-in-Some g c =
       after = named_old (place k.inside k.crossing c.args.level.now (g.V.Volume.sample c.args.volume.now)) s e _ h;
       number = number_old s e _ h;
       same_map = refl;
-      same-vertices = refl;
+      same_vertices = refl;
     }
 
 pub push-requires : goal.push-requires
 unfolding vertex_on
-push-requires g c = c.requires.fits.vertex (sym c.in-default.ensures)
+push-requires g c = c.requires.fits.vertex (sym c.in_default.ensures)
 
 pub unreachable-requires : goal.unreachable-requires
 unfolding vertex_on
 unreachable-requires g c =
-    let h = c.requires.fits.entry (sym c.in-default.ensures) in
+    let h = c.requires.fits.entry (sym c.in_default.ensures) in
     omega (arith, h, free_crowded c.args.map.now.entries.now (c.in-Err.ensures.full refl))
 
 pub returns : goal.returns
@@ -36,10 +36,10 @@ returns g c =
     let k = g.Kind.SampleKind in
     let s = numbering c.args.map.now.entries.now c.args.vertices.now.items.now c.args.vertices.now.count in
     let e = c.args.edge in
-    let h = c.in-default.ensures in
+    let h = c.in_default.ensures in
     record {
       after = named_new (place k.inside k.crossing c.args.level.now (g.V.Volume.sample c.args.volume.now)) s e _ _ _ _ h c.insert.ensures.entries c.place-at.ensures c.push.ensures.items c.push.ensures.count;
       number = number_new s e h;
       same_map = c.insert.ensures.same;
-      same-vertices = c.push.ensures.same;
+      same_vertices = c.push.ensures.same;
     }

@@ -6,8 +6,8 @@ use Rattle.surface.proofs.needs.need_of.Goals as goal
 pub returns : goal.returns
 unfolding flag_need
 returns c =
-    let r = c.crossed-edges-edges.result in
+    let r = c.crossed_edges-edges.result in
     let n : r.count - 0 ≡ r.count = omega arith in
-    let e = ap (λ (k : ℕ). take k r.items) n ∙ c.crossed-edges-edges.ensures.value in
-    let v = c.bare-edges.ensures.value ∙ ap (count_by (bare c.args.map.now.entries.now)) e in
+    let e = ap (λ (k : ℕ). take k r.items) n ∙ c.crossed_edges-edges.ensures.value in
+    let v = c.bare_edges.ensures.value ∙ ap (count_by (bare c.args.map.now.entries.now)) e in
     (λ i. record { vertices = v i; triangles = c.triangles-triangles.ensures.count i })

@@ -5,4 +5,4 @@ use Rattle.volume.proofs.files.read_densities.Goals as goal
 
 pub loop-i-preserved : goal.loop-i-preserved
 loop-i-preserved c =
-    run_more (λ i. Some (word c.args.bytes.now (6 + 2 * i))) _ _ c.loop-i.i _ c.loop-i.invariant (ap Some c.word-at.ensures)
+    run_more (λ i. Some (word c.args.bytes.now (6 + 2 * i))) _ _ c.loop-i.i _ c.loop-i.invariant (ap Some c.word_at.ensures)

@@ -8,6 +8,6 @@ returns g c =
     let k = g.V.Kind.SampleKind in
     let h = c.args.level.now in
     record {
-      value = c.answer_inside.ensures ∙ ap (answer_inside k.inside h) c.sample-at.ensures;
+      value = c.answer_inside.ensures ∙ ap (answer_inside k.inside h) c.sample_at.ensures;
       exact = insides_exact k.inside h (g.V.Volume.sample c.args.volume.now);
     }

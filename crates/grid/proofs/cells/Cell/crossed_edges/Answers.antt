@@ -4,7 +4,7 @@ use Rattle.grid.specs.declared.geometry.GridEdge.{GridEdge}
 use Rattle.grid.specs.declared.geometry.Span.{Span}
 use Rattle.grid.specs.Patterns.{spans, no_span, span_crossed, span_edge, flag_edges}
 use Rattle.grid.proofs.Patterns.{kept_yes, kept_no}
-use Rattle.grid.proofs.cells.Cell.crossed_edges.Goals.{then-is-crossed, else-is-crossed}
+use Rattle.grid.proofs.cells.Cell.crossed_edges.Goals.{then-is_crossed, else-is_crossed}
 use Rattle.grid.proofs.cells.Cell.crossed_edges.Goals as goal
 
 pub loop-i-preserved : goal.loop-i-preserved
@@ -13,22 +13,22 @@ loop-i-preserved c =
     let h : i < 19 = c.loop-i-test.true in
     let B = c.args.self.base in
     let p = span_crossed c.args.inside.now in
-    let s = c.span-at-span.ensures.value in
+    let s = c.span_at-span.ensures.value in
     let inv = c.loop-i.invariant in
-    elim c.if-is-crossed.branch [
-      | then-is-crossed w ↦
-          let e : span_edge B (get_or spans i no_span) ≡ record { low = w.corner.result; direction = c.span-at-span.result.direction } =
+    elim c.if-is_crossed.branch [
+      | then-is_crossed w ↦
+          let e : span_edge B (get_or spans i no_span) ≡ record { low = w.corner.result; direction = c.span_at-span.result.direction } =
           (λ j. record { low = (ap (λ (q : Span). (span_edge B q).low) (sym s) ∙ sym w.corner.ensures) j; direction = (sym s j).direction }) in
           rw (w.items-is, w.count-is) (
             take_more_set c.loop-i.items c.loop-i.count _ (omega arith)
                 ∙ (λ j. inv.0 j ++ (sym e j ∷ []))
-                ∙ sym (kept_yes p (span_edge B) spans i no_span h (ap p (sym s) ∙ sym w.if-is-crossed.ensures)),
+                ∙ sym (kept_yes p (span_edge B) spans i no_span h (ap p (sym s) ∙ sym w.if-is_crossed.ensures)),
             omega arith,
             length-set c.loop-i.items c.loop-i.count _ ∙ inv.2,
           )
-      | else-is-crossed w ↦
+      | else-is_crossed w ↦
           rw (w.items-is, w.count-is)
-          (inv.0 ∙ sym (kept_no p (span_edge B) spans i no_span h (ap p (sym s) ∙ sym w.if-is-crossed.ensures)), omega arith, inv.2)
+          (inv.0 ∙ sym (kept_no p (span_edge B) spans i no_span h (ap p (sym s) ∙ sym w.if-is_crossed.ensures)), omega arith, inv.2)
     ]
 
 pub returns : goal.returns

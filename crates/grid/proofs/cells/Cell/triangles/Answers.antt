@@ -23,14 +23,14 @@ loop-t-preserved c =
     let inv = c.loop-t.invariant in
     let h : t < 6 = c.loop-t-test.true in
     let at : get_or six t 0 ≡ t = six_at t h in
-    let tet : map (placed B t) (row (odd t) c.tet-mask.result) ≡ f (get_or six t 0) =
-    ap (λ (m : ℕ). map (placed B t) (row (odd t) m)) c.tet-mask.ensures.mask ∙ ap f (sym at) in
-    let long : length (row (odd t) c.tet-mask.result) ≡ length (f (get_or six t 0)) = sym (length-map (row (odd t) c.tet-mask.result) (placed B t)) ∙ ap length tet in
+    let tet : map (placed B t) (row (odd t) c.tet_mask.result) ≡ f (get_or six t 0) =
+    ap (λ (m : ℕ). map (placed B t) (row (odd t) m)) c.tet_mask.ensures.mask ∙ ap f (sym at) in
+    let long : length (row (odd t) c.tet_mask.result) ≡ length (f (get_or six t 0)) = sym (length-map (row (odd t) c.tet_mask.result) (placed B t)) ∙ ap length tet in
     let more = length_joined f six t 0 h in (
       c.emit-count.ensures.items ∙ (λ j. sets (inv.0 j) c.loop-t.count (tet j)) ∙ sets_joined f _ 0 c.loop-t.count six t 0 h (omega arith),
       omega (arith, c.emit-count.ensures.end),
       omega (arith, c.emit-count.ensures.few),
-      ap length c.emit-count.ensures.items ∙ length-sets c.loop-t.items c.loop-t.count (map (placed B t) (row (odd t) c.tet-mask.result)) ∙ inv.3,
+      ap length c.emit-count.ensures.items ∙ length-sets c.loop-t.items c.loop-t.count (map (placed B t) (row (odd t) c.tet_mask.result)) ∙ inv.3,
     )
 
 pub returns : goal.returns

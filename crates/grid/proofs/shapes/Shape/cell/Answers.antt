@@ -3,11 +3,11 @@ use Rattle.grid.specs.Shapes.{sides}
 use Rattle.grid.proofs.Numbers.{base_within, number_of_base}
 use Rattle.grid.proofs.shapes.Shape.cell.Goals as goal
 
-pub overflow-cast-result-3 : goal.overflow-cast-result-3
-overflow-cast-result-3 c = let b = base_within (sides c.args.self) c.args.number (omega arith) in search rules
+pub overflow_cast-result-3 : goal.overflow_cast-result-3
+overflow_cast-result-3 c = let b = base_within (sides c.args.self) c.args.number (omega arith) in search rules
 
-pub invariant-of-result : goal.invariant-of-result
-invariant-of-result c = let b = base_within (sides c.args.self) c.args.number (omega arith) in ((omega arith, omega arith, omega arith), tt)
+pub invariant_of-result : goal.invariant_of-result
+invariant_of-result c = let b = base_within (sides c.args.self) c.args.number (omega arith) in record { room = (omega arith, omega arith, omega arith) }
 
 pub returns : goal.returns
 returns c =

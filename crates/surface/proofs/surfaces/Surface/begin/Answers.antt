@@ -7,8 +7,8 @@ use Rattle.surface.proofs.Begun.{tied_start}
 use Rattle.surface.proofs.Kept.{begin_keeps}
 use Rattle.surface.proofs.surfaces.Surface.begin.Goals as goal
 
-pub invariant-of-result : goal.invariant-of-result
-invariant-of-result c = (
+pub invariant_of-result : goal.invariant_of-result
+invariant_of-result c = (
   omega (arith, c.over.ensures.count),
   (
     omega (arith, c.over-2.ensures.count),
@@ -22,13 +22,13 @@ returns c =
     let es = c.clear.ensures.free ∙ ap (λ (n : ℕ). replicate n Free) (ap length c.over-map.ensures.value) in
     let s : State = record {
       sides = sides c.args.shape;
-      marks = c.clear-marks.new.marks;
+      marks = c.clear_marks.new.marks;
       tables = tables (numbering c.clear.new.self.entries.now c.over.result.items.now c.over.result.count) c.over-2.result.items.now c.over-2.result.count;
     } in
     let is : s ≡ begun (sides c.args.shape) (length c.args.marks.now) (length c.args.entries.now) c.args.vertices.now c.args.triangles.now =
     (λ i. record {
       sides = sides c.args.shape;
-      marks = c.clear-marks.ensures i;
+      marks = c.clear_marks.ensures i;
       tables = tables (numbering (es i) (c.over.ensures.items i) (c.over.ensures.count i)) (c.over-2.ensures.items i) (c.over-2.ensures.count i);
     }) in
     record { is = is; skin = begin_keeps (sides c.args.shape) (length c.args.marks.now) (length c.args.entries.now) c.args.vertices.now c.args.triangles.now s is }

@@ -24,7 +24,7 @@ returns-in-Ok g c =
     let f = field k.inside k.crossing c.args.level.now (sides (g.V.Volume.shaped c.args.volume.now)) (g.V.Volume.sample c.args.volume.now) in
     let s = state c.args.self.now in
     let bound = bounded k.inside k.crossing c.args.level.now f.sides (g.V.Volume.sample c.args.volume.now) c.shape.ensures.border in
-    record { is = c.march-at.ensures; skin = march_keeps f s (state c.march-at.new.self) c.args.cell c.march-at.result bound c.march-at.ensures }
+    record { is = c.march_at.ensures; skin = march_keeps f s (state c.march_at.new.self) c.args.cell c.march_at.result bound c.march_at.ensures }
 
 pub returns-in-Err : goal.returns-in-Err
 returns-in-Err g c =
@@ -33,6 +33,6 @@ returns-in-Err g c =
     let s = state c.args.self.now in
     let bound = bounded k.inside k.crossing c.args.level.now f.sides (g.V.Volume.sample c.args.volume.now) c.shape.ensures.border in
     let shape : shapes_refusal s.sides f.sides ≡ None =
-    ap (λ (t : Shape). shapes_refusal s.sides (sides t)) (sym c.shape.ensures.is) ∙ sym c.refuses.ensures ∙ c.in-default.is in
+    ap (λ (t : Shape). shapes_refusal s.sides (sides t)) (sym c.shape.ensures.is) ∙ sym c.refuses.ensures ∙ c.in_default.is in
     let m : March f s c.args.cell (Err c.in-Err.why) s = (refused_cell f s c.args.cell c.in-Err.why shape c.in-Err.ensures, refl) in
     record { is = m; skin = march_keeps f s s c.args.cell (Err c.in-Err.why) bound m }

@@ -2,8 +2,8 @@ use Rattle.std.proofs.Common.{◌≤◌, arith}
 use Rattle.volume.specs.Crossings.{amount}
 use Rattle.volume.proofs.ratios.RatioSampleKind.crossing_to.Goals as goal
 
-pub overflow-add-result : goal.overflow-add-result
-overflow-add-result c =
+pub overflow_add-result : goal.overflow_add-result
+overflow_add-result c =
     let a = c.args.self.now.within in
     let b = c.args.outside.now.within in
     let h = c.args.level.now.within in

@@ -10,7 +10,7 @@ loop-code-preserved g c =
     let k = g.Self.Kind.SampleKind in
     let sample = g.Self.Volume.sample c.args.self.now in
     let h = c.args.level.now in
-    let e = c.answer_inside.ensures ∙ ap (answer_inside k.inside h) (c.sample-at.ensures ∙ ap sample c.corner.ensures) in
+    let e = c.answer_inside.ensures ∙ ap (answer_inside k.inside h) (c.sample_at.ensures ∙ ap sample c.corner.ensures) in
     filled_more (λ n. inside_at k.inside h sample (c.args.cell.base ⊕ offset n)) c.loop-code.all c.loop-code.code c.answer_inside.result c.loop-code-test.true c.loop-code.invariant e
 
 pub returns : goal.returns
