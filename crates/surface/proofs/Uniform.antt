@@ -50,7 +50,7 @@ abbrev all_of : List Bool → Bool
 all_of l =
     get_or l 0 false && get_or l 1 false && get_or l 2 false && get_or l 3 false && get_or l 4 false && get_or l 5 false && get_or l 6 false && get_or l 7 false
 
-each_as_first : (l : List Bool) → beq (some_of l) (all_of l) ≡ true → (k : ℕ) → k < 8 → get_or l k false ≡ get_or l 0 false
+pub each_as_first : (l : List Bool) → beq (some_of l) (all_of l) ≡ true → (k : ℕ) → k < 8 → get_or l k false ≡ get_or l 0 false
 each_as_first l t k h =
     let p = uniform_flags (get_or l 0 false) (get_or l 1 false) (get_or l 2 false) (get_or l 3 false) (get_or l 4 false) (get_or l 5 false) (get_or l 6 false) (get_or l 7 false) t in
     grind (arith, h, p.0, p.1, p.2, p.3, p.4, p.5, p.6)

@@ -11,7 +11,7 @@ use Rattle.census.proofs.grids.starting_at.Goals as goal
 pub returns-then-not-point_inside : goal.returns-then-not-point_inside
 unfolding tetrahedra
 returns-then-not-point_inside g c =
-    let inside : Point → Bool = inside_at g.Kind.SampleKind.inside c.args.level.now (g.V.Volume.sample c.args.volume.now) in
+    let inside : Point → Bool = inside_at g.V.Kind.SampleKind.inside c.args.level.now (g.V.Volume.sample c.args.volume.now) in
     let P : Point = c.args.cell.base in
     let e : inside P ≡ false = sym c.if-not-point_inside.ensures.value in
     record {
@@ -24,22 +24,22 @@ returns-then-not-point_inside g c =
 
 pub edges_from-requires : goal.edges_from-requires
 edges_from-requires g c =
-    let inside : Point → Bool = inside_at g.Kind.SampleKind.inside c.args.level.now (g.V.Volume.sample c.args.volume.now) in
+    let inside : Point → Bool = inside_at g.V.Kind.SampleKind.inside c.args.level.now (g.V.Volume.sample c.args.volume.now) in
     base_flag inside c.args.cell.base c.corners_inside-at.result c.corners_inside-at.ensures.value c.if-not-point_inside.ensures.value
 
 pub triangles_from-requires : goal.triangles_from-requires
 triangles_from-requires g c =
-    let inside : Point → Bool = inside_at g.Kind.SampleKind.inside c.args.level.now (g.V.Volume.sample c.args.volume.now) in
+    let inside : Point → Bool = inside_at g.V.Kind.SampleKind.inside c.args.level.now (g.V.Volume.sample c.args.volume.now) in
     base_flag inside c.args.cell.base c.corners_inside-at.result c.corners_inside-at.ensures.value c.if-not-point_inside.ensures.value
 
 pub tetrahedra_from-requires : goal.tetrahedra_from-requires
 tetrahedra_from-requires g c =
-    let inside : Point → Bool = inside_at g.Kind.SampleKind.inside c.args.level.now (g.V.Volume.sample c.args.volume.now) in
+    let inside : Point → Bool = inside_at g.V.Kind.SampleKind.inside c.args.level.now (g.V.Volume.sample c.args.volume.now) in
     base_flag inside c.args.cell.base c.corners_inside-at.result c.corners_inside-at.ensures.value c.if-not-point_inside.ensures.value
 
 pub returns : goal.returns
 returns g c =
-    let inside : Point → Bool = inside_at g.Kind.SampleKind.inside c.args.level.now (g.V.Volume.sample c.args.volume.now) in
+    let inside : Point → Bool = inside_at g.V.Kind.SampleKind.inside c.args.level.now (g.V.Volume.sample c.args.volume.now) in
     let P : Point = c.args.cell.base in
     let by : (codes : List (List ℕ)) → flag_starting c.corners_inside-at.result codes ≡ flag_starting (corner_flags inside P) codes = λ codes.
     ap (λ (l : List Bool). flag_starting l codes) c.corners_inside-at.ensures.value in

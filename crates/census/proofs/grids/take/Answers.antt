@@ -15,7 +15,7 @@ use Rattle.census.proofs.grids.take.Goals.{in-Some, in_default}
 pub loop-number-preserved : goal.loop-number-preserved
 loop-number-preserved g c =
     let n : Sides = sides c.shape-shape.result in
-    let inside : Point → Bool = inside_at g.Kind.SampleKind.inside c.args.level.now (g.V.Volume.sample c.args.volume.now) in
+    let inside : Point → Bool = inside_at g.V.Kind.SampleKind.inside c.args.level.now (g.V.Volume.sample c.args.volume.now) in
     let k : ℕ = c.loop-number.number in
     elim c.match-cell.branch [
       | in-Some w ↦
@@ -24,7 +24,7 @@ loop-number-preserved g c =
           let here = w.starting_at-here.ensures in (
             more point_codes _ _ _ c.loop-number.invariant.0 here.points here.few.0 w.points-is,
             more edge_codes _ _ _ c.loop-number.invariant.1 here.edges here.few.1 w.edges-is,
-            more triangle_codes _ _ _ c.loop-number.invariant.2 here.triangles here.few.2 w.triangles_is,
+            more triangle_codes _ _ _ c.loop-number.invariant.2 here.triangles here.few.2 w.triangles-is,
             more tetrahedra _ _ _ c.loop-number.invariant.3 here.tetrahedra here.few.3 w.tetrahedra-is,
           )
       | in_default w ↦
@@ -36,12 +36,12 @@ loop-number-preserved g c =
 pub returns : goal.returns
 unfolding tetrahedra
 returns g c =
-    let inside : Point → Bool = inside_at g.Kind.SampleKind.inside c.args.level.now (g.V.Volume.sample c.args.volume.now) in
+    let inside : Point → Bool = inside_at g.V.Kind.SampleKind.inside c.args.level.now (g.V.Volume.sample c.args.volume.now) in
     let n : Sides = sides (g.V.Volume.shaped c.args.volume.now) in
     let s : Sides = sides c.shape-shape.result in
     let e : s ≡ n = ap sides c.shape-shape.ensures.is in
     let k : ℕ = c.loop-number.number in
-    let pad : Padded n inside = padded g.Kind.SampleKind.inside c.args.level.now n (g.V.Volume.sample c.args.volume.now) c.shape-shape.ensures.border in
+    let pad : Padded n inside = padded g.V.Kind.SampleKind.inside c.args.level.now n (g.V.Volume.sample c.args.volume.now) c.shape-shape.ensures.border in
     let low : c.cell_count-number-end.result ≤ k = c.loop-number-test.false in
     let high : k ≤ c.cell_count-number-end.result = c.loop-number.auto.number-end in
     let all : k ≡ cell_count s = omega (arith, c.cell_count-number-end.ensures) in

@@ -12,7 +12,7 @@ use Rattle.census.proofs.grids.take.Given as goal
 abbrev pub invariant-loop-number : goal.invariant-loop-number
 invariant-loop-number g l =
     let n : Sides = sides l.shape in
-    let inside : Point → Bool = inside_at g.Kind.SampleKind.inside l.level (g.V.Volume.sample l.volume) in
+    let inside : Point → Bool = inside_at g.V.Kind.SampleKind.inside l.level (g.V.Volume.sample l.volume) in
     SumTo n inside point_codes l.number l.points
     × SumTo n inside edge_codes l.number l.edges
     × SumTo n inside triangle_codes l.number l.triangles

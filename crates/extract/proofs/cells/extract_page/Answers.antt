@@ -13,7 +13,7 @@ use Rattle.extract.proofs.cells.extract_page.Goals as goal
 
 pub returns-in_err-march_all : goal.returns-in_err-march_all
 returns-in_err-march_all g c =
-    let k = g.Kind.SampleKind in
+    let k = g.V.Kind.SampleKind in
     let f = field k.inside k.crossing c.args.level.now (sides (g.V.Volume.shaped c.args.volume.now)) (g.V.Volume.sample c.args.volume.now) in
     let s : State = begun f.sides (length c.args.marks.now) (length c.args.entries.now) c.args.vertices.now c.args.triangles.now in
     let start : state c.begin-surface.result ≡ s =
@@ -24,7 +24,7 @@ returns-in_err-march_all g c =
 
 pub returns : goal.returns
 returns g c =
-    let k = g.Kind.SampleKind in
+    let k = g.V.Kind.SampleKind in
     let f = field k.inside k.crossing c.args.level.now (sides (g.V.Volume.shaped c.args.volume.now)) (g.V.Volume.sample c.args.volume.now) in
     let s : State = begun f.sides (length c.args.marks.now) (length c.args.entries.now) c.args.vertices.now c.args.triangles.now in
     let start : state c.begin-surface.result ≡ s =

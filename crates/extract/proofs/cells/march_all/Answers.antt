@@ -14,14 +14,14 @@ loop-cell-init g c = rising_none _ _
 
 pub loop-cell-preserved : goal.loop-cell-preserved
 loop-cell-preserved g c =
-    let k = g.Kind.SampleKind in
+    let k = g.V.Kind.SampleKind in
     let f = field k.inside k.crossing c.args.level.now (sides (g.V.Volume.shaped c.args.volume.now)) (g.V.Volume.sample c.args.volume.now) in
     let m = c.in_ok-march.ensures.is in
     rising_more f (state c.args.surface.now) c.loop-cell.cell (state c.loop-cell.surface) (state c.march.new.self) c.loop-cell.invariant m.0 m.2
 
 pub returns-in_err-march : goal.returns-in_err-march
 returns-in_err-march g c =
-    let k = g.Kind.SampleKind in
+    let k = g.V.Kind.SampleKind in
     let f = field k.inside k.crossing c.args.level.now (sides (g.V.Volume.shaped c.args.volume.now)) (g.V.Volume.sample c.args.volume.now) in
     let p = err_from_is_err_and c.from-residual.result c.from-residual.ensures.1 in
     let m = c.in_err-march.ensures.is in
@@ -31,7 +31,7 @@ returns-in_err-march g c =
 
 pub returns : goal.returns
 returns g c =
-    let k = g.Kind.SampleKind in
+    let k = g.V.Kind.SampleKind in
     let f = field k.inside k.crossing c.args.level.now (sides (g.V.Volume.shaped c.args.volume.now)) (g.V.Volume.sample c.args.volume.now) in
     let last : c.cell_count-cell-end.result ≡ cell_count f.sides = c.cell_count-cell-end.ensures ∙ ap (λ (s : Shape). cell_count (sides s)) c.shape.ensures.is in
     let e : cell_count f.sides ≡ c.loop-cell.cell = omega (arith, last) in

@@ -20,7 +20,7 @@ returns-in_err-page g c = IfOk-from_err _ _ c.from-residual-in_err-page.ensures.
 
 pub returns-in-Ok : goal.returns-in-Ok
 returns-in-Ok g c =
-    let k = g.Kind.SampleKind in
+    let k = g.V.Kind.SampleKind in
     let f = field k.inside k.crossing c.args.level.now (sides (g.V.Volume.shaped c.args.volume.now)) (g.V.Volume.sample c.args.volume.now) in
     on_tables f _ _ _ _ _ _
     (c.deref-mut.ensures.len ∙ c.in_ok-marks.ensures.len)
@@ -32,7 +32,7 @@ returns-in-Ok g c =
 
 pub returns : goal.returns
 returns g c =
-    let k = g.Kind.SampleKind in
+    let k = g.V.Kind.SampleKind in
     let f = field k.inside k.crossing c.args.level.now (sides (g.V.Volume.shaped c.args.volume.now)) (g.V.Volume.sample c.args.volume.now) in
     on_tables f _ _ _ _ _ _
     (c.deref-mut.ensures.len ∙ c.in_ok-marks.ensures.len)

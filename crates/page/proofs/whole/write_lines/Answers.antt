@@ -18,7 +18,7 @@ none = record { a = 0; b = 0; c = 0 }
 
 pub returns-in_err-open : goal.returns-in_err-open
 returns-in_err-open g c =
-    let p = err_from_is_err_and c.from-residual.result c.from-residual.ensures.1 in
+    let p = err_from_is_err_and c.from_residual.result c.from_residual.ensures.1 in
     rw (p.1, p.2)
     (begin_stop g.P.Located.place c.args.vertices.now c.args.triangles.now c.args.buffer.now c.begin.new.buffer c.in_err-open.field-0.0 c.in_err-open.ensures)
 
@@ -40,7 +40,7 @@ returns-in_err-open-2 g c =
     let i = c.loop-vertex.vertex-index in
     let b = begin_on place xs ts c.args.buffer.now c.begin.new.buffer c.in_ok-open.«open» c.in_ok-open.ensures in
     let at = at_place place xs i c.vertex-item.result c.coordinates.result c.loop-vertex-test.true c.vertex-item.is c.coordinates.ensures in
-    let p = err_from_is_err_and c.from-residual-in_err-open-2.result c.from-residual-in_err-open-2.ensures.1 in
+    let p = err_from_is_err_and c.from_residual-in_err-open-2.result c.from_residual-in_err-open-2.ensures.1 in
     let m =
     vertices_stop vs (length ts) (header (length vs) (length ts)) (map (face (length vs)) ts) i c.begin.new.buffer c.loop-vertex.buffer c.vertex.new.buffer
     c.loop-vertex.«open» c.in_err-open-2.field-0.0 c.coordinates.result at.0 at.1 c.loop-vertex.invariant c.in_err-open-2.ensures
@@ -101,7 +101,7 @@ returns-in_err-faces-2 g c =
     let b = begin_on place xs ts before c.begin.new.buffer c.in_ok-open.«open» c.in_ok-open.ensures in
     let o = page_outcome (length before) (mesh vs ts) in
     let r = reached_faces vs ts i c.begin.new.buffer c.loop-vertex.buffer before o c.loop-vertex.«open» all c.loop-vertex.invariant b.1 in
-    let p = err_from_is_err_and c.from-residual-in_err-faces-2.result c.from-residual-in_err-faces-2.ensures.1 in
+    let p = err_from_is_err_and c.from_residual-in_err-faces-2.result c.from_residual-in_err-faces-2.ensures.1 in
     let m =
     faces_stop (length vs) ts (header (length vs) (length ts) ++ flat_map vertex_line vs) c.loop-triangle.triangle-index c.loop-vertex.buffer c.loop-triangle.buffer c.face.new.buffer
     c.loop-triangle.faces c.in_err-faces-2.field-0.0 none c.loop-triangle-test.true c.loop-triangle.invariant c.in_err-faces-2.ensures before o r in

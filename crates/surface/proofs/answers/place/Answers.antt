@@ -5,7 +5,7 @@ use Rattle.surface.proofs.answers.place.Goals as goal
 pub returns : goal.returns
 unfolding place
 returns g c =
-    let k = g.Kind.SampleKind in
+    let k = g.V.Kind.SampleKind in
     let h = c.args.level.now in
     c.along.ensures
     ∙ ap (along c.args.edge) (c.height.ensures.value ∙ (λ i. from_low k.inside k.crossing h (c.sample_at-low.ensures i) (c.sample_on_top-high.ensures i)))

@@ -6,12 +6,12 @@ use Rattle.surface.proofs.naming.add_all.Goals as goal
 
 pub loop-triangle-init : goal.loop-triangle-init
 loop-triangle-init g c =
-    let k = g.Kind.SampleKind in
+    let k = g.V.Kind.SampleKind in
     (added_none (place k.inside k.crossing c.args.level.now (g.V.Volume.sample c.args.volume.now)) _, omega arith, refl, refl, refl, refl)
 
 pub loop-triangle-preserved : goal.loop-triangle-preserved
 loop-triangle-preserved g c =
-    let k = g.Kind.SampleKind in
+    let k = g.V.Kind.SampleKind in
     let p = place k.inside k.crossing c.args.level.now (g.V.Volume.sample c.args.volume.now) in
     let l = c.loop-triangle in
     let inv = l.invariant in
@@ -27,7 +27,7 @@ loop-triangle-preserved g c =
 
 pub returns : goal.returns
 returns g c =
-    let k = g.Kind.SampleKind in
+    let k = g.V.Kind.SampleKind in
     let l = c.loop-triangle in
     record {
       after = added_all_of (place k.inside k.crossing c.args.level.now (g.V.Volume.sample c.args.volume.now)) _ _ c.args.list.now l.triangle-index c.loop-triangle-test.false l.invariant.0;

@@ -5,7 +5,7 @@ use Rattle.surface.proofs.naming.add_all.Given as goal
 
 abbrev pub invariant-loop-triangle : goal.invariant-loop-triangle
 invariant-loop-triangle g l =
-    let k = g.Kind.SampleKind in
+    let k = g.V.Kind.SampleKind in
     (tables (numbering l.map.entries.now l.vertices.items.now l.vertices.count) l.triangles.items.now l.triangles.count
     ≡ added_all (place k.inside k.crossing l.level (g.V.Volume.sample l.volume))
     (tables (numbering l.initial.map.entries.now l.initial.vertices.items.now l.initial.vertices.count) l.initial.triangles.items.now l.initial.triangles.count)

@@ -6,7 +6,7 @@ use Rattle.surface.proofs.naming.add_triangle.Goals as goal
 
 pub returns : goal.returns
 returns g c =
-    let k = g.Kind.SampleKind in
+    let k = g.V.Kind.SampleKind in
     let t = c.args.triangles.now in
     let A = c.vertex_number-a in
     let B = c.vertex_number-b in

@@ -9,7 +9,7 @@ use Rattle.surface.proofs.naming.vertex_number.Goals as goal
 pub returns-in-Some : goal.returns-in-Some
 unfolding vertex_on
 returns-in-Some g c =
-    let k = g.Kind.SampleKind in
+    let k = g.V.Kind.SampleKind in
     let s = numbering c.args.map.now.entries.now c.args.vertices.now.items.now c.args.vertices.now.count in
     let e = c.args.edge in
     let h = c.in-Some.ensures in
@@ -33,7 +33,7 @@ unreachable-requires g c =
 pub returns : goal.returns
 unfolding vertex_on with_vertex
 returns g c =
-    let k = g.Kind.SampleKind in
+    let k = g.V.Kind.SampleKind in
     let s = numbering c.args.map.now.entries.now c.args.vertices.now.items.now c.args.vertices.now.count in
     let e = c.args.edge in
     let h = c.in_default.ensures in

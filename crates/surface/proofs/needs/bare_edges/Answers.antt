@@ -8,7 +8,7 @@ use Rattle.surface.proofs.needs.bare_edges.Goals as goal
 pub loop-edge-preserved : goal.loop-edge-preserved
 loop-edge-preserved c =
     let p = bare c.args.map.now.entries.now in
-    let i = c.loop-edge.edge_index in
+    let i = c.loop-edge.edge-index in
     let h = c.loop-edge-test.true in
     elim c.if-is_bare.branch [
       | then-is_bare w ↦ let e = count_by_more_yes p c.args.edges.now i _ h (sym w.if-is_bare.ensures) in (omega (arith, w.n-is, e), omega (arith, w.n-is))
@@ -17,5 +17,5 @@ loop-edge-preserved c =
 
 pub returns : goal.returns
 returns c =
-    let all = take_all c.loop-edge.edge_index c.args.edges.now c.loop-edge-test.false in
+    let all = take_all c.loop-edge.edge-index c.args.edges.now c.loop-edge-test.false in
     record { value = c.loop-edge.invariant.0 ∙ ap (count_by (bare c.args.map.now.entries.now)) all; few = omega arith }

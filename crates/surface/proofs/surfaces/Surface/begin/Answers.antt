@@ -8,13 +8,11 @@ use Rattle.surface.proofs.Kept.{begin_keeps}
 use Rattle.surface.proofs.surfaces.Surface.begin.Goals as goal
 
 pub invariant_of-result : goal.invariant_of-result
-invariant_of-result c = (
-  omega (arith, c.over.ensures.count),
-  (
-    omega (arith, c.over-2.ensures.count),
-    (tied_start c.clear.new.self.entries.now (length c.over-map.result.entries.now) c.over.result.items.now c.over.result.count c.clear.ensures.free c.over.ensures.count, tt),
-  ),
-)
+invariant_of-result c = record {
+  vertices_fit = omega (arith, c.over.ensures.count);
+  triangles_fit = omega (arith, c.over-2.ensures.count);
+  tied = tied_start c.clear.new.self.entries.now (length c.over-map.result.entries.now) c.over.result.items.now c.over.result.count c.clear.ensures.free c.over.ensures.count;
+}
 
 pub returns : goal.returns
 unfolding begun

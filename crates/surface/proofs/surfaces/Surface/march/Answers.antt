@@ -9,7 +9,7 @@ use Rattle.surface.proofs.surfaces.Surface.march.Goals as goal
 
 pub returns-in-Some : goal.returns-in-Some
 returns-in-Some g c =
-    let k = g.Kind.SampleKind in
+    let k = g.V.Kind.SampleKind in
     let f = field k.inside k.crossing c.args.level.now (sides (g.V.Volume.shaped c.args.volume.now)) (g.V.Volume.sample c.args.volume.now) in
     let s = state c.args.self.now in
     let bound = bounded k.inside k.crossing c.args.level.now f.sides (g.V.Volume.sample c.args.volume.now) c.shape.ensures.border in
@@ -20,7 +20,7 @@ returns-in-Some g c =
 
 pub returns-in-Ok : goal.returns-in-Ok
 returns-in-Ok g c =
-    let k = g.Kind.SampleKind in
+    let k = g.V.Kind.SampleKind in
     let f = field k.inside k.crossing c.args.level.now (sides (g.V.Volume.shaped c.args.volume.now)) (g.V.Volume.sample c.args.volume.now) in
     let s = state c.args.self.now in
     let bound = bounded k.inside k.crossing c.args.level.now f.sides (g.V.Volume.sample c.args.volume.now) c.shape.ensures.border in
@@ -28,7 +28,7 @@ returns-in-Ok g c =
 
 pub returns-in-Err : goal.returns-in-Err
 returns-in-Err g c =
-    let k = g.Kind.SampleKind in
+    let k = g.V.Kind.SampleKind in
     let f = field k.inside k.crossing c.args.level.now (sides (g.V.Volume.shaped c.args.volume.now)) (g.V.Volume.sample c.args.volume.now) in
     let s = state c.args.self.now in
     let bound = bounded k.inside k.crossing c.args.level.now f.sides (g.V.Volume.sample c.args.volume.now) c.shape.ensures.border in
