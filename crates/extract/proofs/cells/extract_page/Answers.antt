@@ -18,7 +18,7 @@ returns-in_err-march_all g c =
     let s : State = begun f.sides (length c.args.marks.now) (length c.args.entries.now) c.args.vertices.now c.args.triangles.now in
     let start : state c.begin-surface.result ≡ s =
     c.begin-surface.ensures.is ∙ ap (λ (h : Shape). begun (sides h) (length c.args.marks.now) (length c.args.entries.now) c.args.vertices.now c.args.triangles.now) c.shape.ensures.is in
-    let p = err_from_is_err_and c.from-residual.result c.from-residual.ensures.1 in
+    let p = err_from_is_err_and c.from_residual.result c.from_residual.ensures.1 in
     rw (p.1, p.2)
     (page_refused f s (length c.args.page.now) _ (ap (λ (q : State). rising f q (cell_count f.sides)) (sym start) ∙ c.in_err-march_all.ensures))
 

@@ -23,7 +23,7 @@ pub returns-in_err-march : goal.returns-in_err-march
 returns-in_err-march g c =
     let k = g.V.Kind.SampleKind in
     let f = field k.inside k.crossing c.args.level.now (sides (g.V.Volume.shaped c.args.volume.now)) (g.V.Volume.sample c.args.volume.now) in
-    let p = err_from_is_err_and c.from-residual.result c.from-residual.ensures.1 in
+    let p = err_from_is_err_and c.from_residual.result c.from_residual.ensures.1 in
     let m = c.in_err-march.ensures.is in
     let last : c.cell_count-cell-end.result ≡ cell_count f.sides = c.cell_count-cell-end.ensures ∙ ap (λ (s : Shape). cell_count (sides s)) c.shape.ensures.is in
     rw (p.1, p.2)
