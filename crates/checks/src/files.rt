@@ -22,13 +22,19 @@ fn files_are_read(rt: HostRuntime) -> Result<(), Fail> {
         assert_eq!(rt; skin(rt.alloc(), input)?.as_slice(), output);
     }
     let long = vec![in rt.alloc(); 2u8; 4097]?;
-    assert_eq!(rt; skin(rt.alloc(), &long)?.as_slice(), b"refused 12 4096\n");
+    assert_eq!(rt;
+        skin(rt.alloc(), &long)?.as_slice(),
+        b"refused 12 4096\n".as_slice()
+    );
     let mut wide = vec![in rt.alloc(); 1u8; 1032]?;
     wide[0] = 2;
     wide[1] = 1;
     wide[2] = 13;
     wide[3] = 79;
-    assert_eq!(rt; skin(rt.alloc(), &wide)?.as_slice(), b"refused 12 1027\n");
+    assert_eq!(rt;
+        skin(rt.alloc(), &wide)?.as_slice(),
+        b"refused 12 1027\n".as_slice()
+    );
     Ok(())
 }
 
@@ -37,7 +43,7 @@ fn files_are_read(rt: HostRuntime) -> Result<(), Fail> {
 fn other_kinds_are_refused(rt: HostRuntime) -> Result<(), Fail> {
     for kind in 0..=255u8 {
         let output = skin(rt.alloc(), &[kind, 1, 1, 1, 5, 5])?;
-        let other = output.as_slice() == b"refused 10 0\n";
+        let other = output.as_slice() == b"refused 10 0\n".as_slice();
         assert_eq!(rt; other, kind != 1 && kind != 2);
     }
     Ok(())

@@ -43,7 +43,7 @@ fn a_short_buffer(rt: HostRuntime) {
         Err(Refusal::PageRoom(77))
     );
     assert_eq!(rt; buffer[76], b'\n');
-    assert_eq!(rt; &buffer[77..], b".......");
+    assert_eq!(rt; &buffer[77..], b".......".as_slice());
 }
 
 #[test]
@@ -58,7 +58,7 @@ fn numbers_outside(rt: HostRuntime) {
         write_page(&mut buffer, &far, &[]),
         Err(Refusal::Outside(2_550_001))
     );
-    assert_eq!(rt; &buffer[..11], b"OFF\n1 0 0\n.");
+    assert_eq!(rt; &buffer[..11], b"OFF\n1 0 0\n.".as_slice());
     let face = Triangle { a: 2, b: 3, c: 4 };
     assert_eq!(rt;
         write_page(&mut buffer, &VERTICES, &[face]),
