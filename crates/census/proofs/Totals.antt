@@ -1,11 +1,11 @@
 -- Sums of what starts at the bases of cells are the numbers of a census. Assumes nothing.
-use Rattle.std.proofs.Common.{◌≡◌, ℕ, suc, ◌+◌, ◌*◌, ◌≤◌, Bool, true, false, T, List, [], ◌∷◌, map, sum_by, Option, sym, refl, ap, ◌∙◌, subst, inl, inr, add-one, arith}
+use Rattle.std.proofs.Common.{◌≡◌, ℕ, ◌+◌, ◌*◌, ◌≤◌, Bool, false, T, List, ◌∷◌, map, sum_by, Option, sym, ap, ◌∙◌, subst, inl, inr, add-one, arith}
 use Rattle.std.proofs.lemmas.Bool.{cases_Bool}
 use Rattle.grid.specs.declared.geometry.Point.{Point}
 use Rattle.grid.specs.Points.{Sides, sampled}
 use Rattle.grid.specs.Cells.{cell_count, cell_base}
 use Rattle.topology.specs.Sides.{Padded}
-use Rattle.topology.specs.Census.{Σ, over_points, over_cells, full, count}
+use Rattle.topology.specs.Census.{Σ, over_cells, full, count}
 use Rattle.topology.proofs.Sums.{points_cells, points_sum}
 use Rattle.topology.proofs.Whole.{within}
 use Rattle.volume.specs.Borders.{Bordered}

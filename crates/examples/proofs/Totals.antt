@@ -1,5 +1,5 @@
 -- What a mesh counts once every cell of a block is marched, from the skin law and the census. Assumes nothing.
-use Rattle.std.proofs.Common.{◌≡◌, ℕ, ◌+◌, ◌*◌, ◌/◌, Bool, T, eqb, List, [], ◌∷◌, map, length, ℤ, pos, ◌+ℤ◌, ◌-ℤ◌, ◌*ℤ◌, sum_by, sym, refl, ap, ◌∙◌, subst, arith, eqb→eq, length-append}
+use Rattle.std.proofs.Common.{◌≡◌, ℕ, ◌+◌, ◌*◌, ◌/◌, Bool, T, eqb, List, [], ◌∷◌, map, length, pos, ◌+ℤ◌, ◌-ℤ◌, ◌*ℤ◌, sum_by, sym, refl, ap, ◌∙◌, subst, arith, eqb→eq, length-append}
 use Rattle.std.specs.List.{flat_map}
 use Rattle.std.proofs.lemmas.Int.{ints}
 use Rattle.std.proofs.lemmas.List.Sums.{sum_by-cons}

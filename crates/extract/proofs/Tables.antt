@@ -1,12 +1,11 @@
 -- The tables of the program are of the stated sizes. Assumes nothing.
-use Rattle.std.proofs.Common.{◌≡◌, ℕ, List, length, replicate, Ok, Err, Result, sym, refl, ap, ◌∙◌}
-use lib.ListN.{length-replicate}
+use Rattle.std.proofs.Common.{◌≡◌, ℕ, List, replicate, Result, sym, ◌∙◌}
 use Rattle.grid.specs.declared.geometry.Triangle.{Triangle}
 use Rattle.refusal.specs.declared.refusals.Refusal.{Refusal}
 use Rattle.mesh.specs.declared.records.Vertex.{Vertex}
-use Rattle.surface.specs.Marches.{State, Field, begun}
+use Rattle.surface.specs.Marches.{Field, begun}
 use Rattle.extract.specs.Rising.{skin_page}
-use Rattle.extract.specs.Output.{no_vertex, no_triangle, start, field_page}
+use Rattle.extract.specs.Output.{no_vertex, no_triangle, field_page}
 
 pub on_tables : (f : Field) (marks entries : ℕ) (vs : List Vertex) (ts : List (Triangle ℕ)) (long : ℕ) (r : Result (List ℕ) Refusal) → marks ≡ 2048 → entries ≡ 4096
     → vs ≡ replicate 2048 no_vertex → ts ≡ replicate 4096 no_triangle → long ≡ 65536 → skin_page f (begun f.sides marks entries vs ts) long ≡ r → field_page f ≡ r

@@ -1,6 +1,5 @@
 -- What `skin` writes: the page of a volume file's skin, or the refusal.
-use Rattle.std.specs.Prelude.{ℕ, Bool, cond, List, [], ◌∷◌, ◌++◌, length, replicate, Some, None, Ok, Err, codes, decimal, Option, Result, ◌==◌, nat_lt}
-use Rattle.grid.specs.declared.geometry.Point.{Point}
+use Rattle.std.specs.Prelude.{ℕ, cond, List, ◌++◌, length, replicate, Some, None, Ok, Err, codes, decimal, Option, Result, ◌==◌, nat_lt}
 use Rattle.grid.specs.declared.geometry.GridEdge.{GridEdge}
 use Rattle.grid.specs.declared.geometry.Triangle.{Triangle}
 use Rattle.refusal.specs.declared.refusals.Refusal.{Refusal}

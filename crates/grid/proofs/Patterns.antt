@@ -1,8 +1,8 @@
 -- The flags of a cell's corners say all that its triangles and crossed edges depend on. Assumes nothing.
-use Rattle.std.proofs.Common.{◌≡◌, ℕ, suc, ◌+◌, ◌/◌, ◌%◌, ◌<◌, ◌≤◌, Bool, true, false, cond, ◌&&◌, eqb, leb, List, [], ◌∷◌, ◌++◌, map, length, get_or, take, filter, sym, refl, ap, ◌∙◌, ⊎_elim, append-nil, add_assoc, arith}
+use Rattle.std.proofs.Common.{◌≡◌, ℕ, suc, ◌+◌, ◌/◌, ◌%◌, ◌<◌, ◌≤◌, Bool, true, false, cond, ◌&&◌, eqb, leb, List, [], ◌∷◌, ◌++◌, map, length, get_or, take, filter, sym, refl, ap, ◌∙◌, append-nil, add_assoc, arith}
 use Rattle.std.proofs.lemmas.List.Elements.{filter_more}
 use Rattle.std.proofs.lemmas.List.{map_push, get_or-map}
-use Rattle.std.proofs.lemmas.Bool.{eqb-true, leb-true, and_parts, cases_Bool}
+use Rattle.std.proofs.lemmas.Bool.{eqb-true, leb-true, and_parts}
 use Rattle.grid.specs.declared.geometry.Point.{Point}
 use Rattle.grid.specs.Points.{◌⊕◌, offset, top, differ, crossed}
 use Rattle.grid.specs.Cells.{tetrahedra, corner, vertex, mask, cell_edges, tet_triangles, cell_triangles}

@@ -1,11 +1,11 @@
 -- Cells, their six tetrahedra, and the triangles that the case table gives them.
-use Rattle.std.specs.Prelude.{ℕ, zero, suc, ◌+◌, ◌-◌, ◌*◌, ◌/◌, ◌%◌, ◌≤◌, Bool, true, false, cond, List, [], ◌∷◌, ◌++◌, map, slice_index, slice_index_or}
+use Rattle.std.specs.Prelude.{ℕ, ◌+◌, ◌-◌, ◌*◌, ◌/◌, ◌%◌, ◌≤◌, Bool, true, false, List, [], ◌∷◌, map, slice_index, slice_index_or}
 use Rattle.std.specs.List.{flat_map}
 use Rattle.grid.specs.declared.geometry.Point.{Point}
 use Rattle.grid.specs.declared.geometry.GridEdge.{GridEdge}
 use Rattle.grid.specs.declared.geometry.Triangle.{Triangle}
 use Rattle.grid.specs.declared.geometry.TetEdge.{TetEdge}
-use Rattle.grid.specs.Points.{Sides, ◌⊕◌, offset, crossed}
+use Rattle.grid.specs.Points.{Sides, ◌⊕◌, offset}
 use Rattle.grid.specs.Cases.{low_position, high_position, row}
 
 -- how many cells a grid has, the number of the cell at a base, and the base of the cell of a number

@@ -1,10 +1,9 @@
 -- A cell's triangles and crossed edges from the flags of its eight corners.
-use Rattle.std.specs.Prelude.{ℕ, ◌+◌, ◌<◌, Bool, true, false, cond, not, List, [], ◌∷◌, map, filter, slice_index_or}
+use Rattle.std.specs.Prelude.{ℕ, ◌+◌, Bool, false, List, [], ◌∷◌, map, filter, slice_index_or}
 use Rattle.std.specs.List.{flat_map}
 use Rattle.grid.specs.declared.geometry.Point.{Point}
 use Rattle.grid.specs.declared.geometry.GridEdge.{GridEdge}
 use Rattle.grid.specs.declared.geometry.Triangle.{Triangle}
-use Rattle.grid.specs.declared.geometry.TetEdge.{TetEdge}
 use Rattle.grid.specs.declared.geometry.Span.{Span}
 use Rattle.grid.specs.Points.{◌⊕◌, offset, differ}
 use Rattle.grid.specs.Cells.{corner, odd, pack, placed}

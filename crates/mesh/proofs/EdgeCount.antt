@@ -1,12 +1,12 @@
 -- On a mesh that keeps the first three rules, twice the mesh edges are three times the triangles. Assumes nothing.
-use Rattle.std.proofs.Common.{◌≡◌, ℕ, zero, suc, ◌+◌, ◌*◌, ◌/◌, ◌%◌, ◌<◌, ◌≤◌, Bool, true, false, cond, not, eqb, ltb, ◌⊎◌, List, length, sym, refl, ap, ◌∙◌, subst, inl, inr, ⊎_elim, arith}
+use Rattle.std.proofs.Common.{◌≡◌, ℕ, ◌+◌, ◌*◌, ◌/◌, ◌%◌, ◌<◌, ◌≤◌, Bool, true, cond, not, eqb, ltb, ◌⊎◌, List, length, sym, ap, ◌∙◌, subst, inl, inr, ⊎_elim, arith}
 use Rattle.std.proofs.lemmas.Bool.{cases_lt, ltb-true, lt-ltb}
 use Rattle.std.proofs.lemmas.Bool.Decides.{nat_tests}
 use Rattle.grid.specs.declared.geometry.Triangle.{Triangle}
 use Rattle.mesh.specs.Triangles.{triangle_at, Runs, Apart}
 use Rattle.mesh.specs.Surfaces.{Surface}
 use Rattle.mesh.specs.Counting.{count}
-use Rattle.mesh.specs.MeshEdges.{MeshEdge, MeshEdges, OneEdgeCount}
+use Rattle.mesh.specs.MeshEdges.{MeshEdges, OneEdgeCount}
 use Rattle.mesh.proofs.Counting.{at_most, count_inj, count_not, count_onto, count_one, count_strict}
 use Rattle.mesh.proofs.Round.{Mesh, surface_mesh}
 

@@ -1,5 +1,5 @@
 -- A table that takes the directed edges of the triangles one by one. Assumes nothing.
-use Rattle.std.proofs.Common.{◌≡◌, ℕ, ◌+◌, ◌<◌, ◌≤◌, true, false, ◌⊎◌, List, [], ◌∷◌, length, replicate, is_some, Some, None, Option, sym, refl, ap, ◌∙◌, subst, inl, inr, ⊎_elim, arith}
+use Rattle.std.proofs.Common.{◌≡◌, ℕ, ◌+◌, ◌<◌, true, false, List, [], ◌∷◌, length, replicate, is_some, Some, None, Option, sym, refl, ap, ◌∙◌, subst, inl, inr, ⊎_elim, arith}
 use Rattle.std.proofs.lemmas.Bool.{cases_eq, false≢true}
 use Rattle.grid.specs.declared.geometry.Triangle.{Triangle}
 use Rattle.keymap.specs.declared.table.Entry.{Entry}
@@ -9,7 +9,7 @@ use Rattle.mesh.specs.declared.sides.DirectedEdge.{DirectedEdge}
 use Rattle.mesh.specs.Sides.{edge_ends, edge_hash}
 use Rattle.mesh.specs.Triangles.{triangle_at, Runs, Apart}
 use Rattle.mesh.specs.Faults.{Doubled, Unpaired}
-use Rattle.mesh.specs.EdgeTables.{found, Seen, Missed, Follows, Noted, Noting}
+use Rattle.mesh.specs.EdgeTables.{found, Seen, Missed, Noted, Noting}
 use Rattle.mesh.proofs.Round.{after_one, before, runs_third}
 use Rattle.mesh.proofs.Judging.{runs_or}
 

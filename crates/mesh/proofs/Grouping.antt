@@ -1,10 +1,10 @@
 -- The vertices that stand for groups number the groups, and no two numbers count them. Assumes nothing.
-use Rattle.std.proofs.Common.{◌≡◌, ℕ, zero, suc, ◌+◌, ◌<◌, ◌≤◌, Bool, true, false, cond, eqb, List, length, sym, refl, ap, ◌∙◌, subst, ⊎_elim, arith}
-use Rattle.std.proofs.lemmas.Bool.{cases_Bool, eqb-true, eq-eqb, both_ways}
+use Rattle.std.proofs.Common.{◌≡◌, ℕ, ◌≤◌, true, List, length, sym, refl, ap, ◌∙◌, arith}
+use Rattle.std.proofs.lemmas.Bool.{eqb-true, eq-eqb}
 use Rattle.grid.specs.declared.geometry.Triangle.{Triangle}
 use Rattle.mesh.specs.declared.verdicts.VertexRecord.{VertexRecord}
 use Rattle.mesh.specs.Counting.{count}
-use Rattle.mesh.specs.Parts.{Joined, Groups, OnePartCount}
+use Rattle.mesh.specs.Parts.{Groups, OnePartCount}
 use Rattle.mesh.specs.Forests.{parent_of, Own, Forest, Settled, labels, fixes}
 use Rattle.mesh.proofs.Counting.{at_most, count_like, count_strict, count_one, count_onto}
 use Rattle.mesh.proofs.Labels.{settled_none, labels_settled, labels_same, labels_joined}

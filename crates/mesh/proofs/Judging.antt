@@ -1,16 +1,16 @@
 -- A mesh without faults is a closed oriented surface, and the verdict by the first fault. Assumes nothing.
-use Rattle.std.proofs.Common.{◌≡◌, ℕ, ◌<◌, ◌≤◌, true, false, ◌⊎◌, List, length, Some, sym, refl, ap, ◌∙◌, subst, inl, inr, ⊎_elim, arith}
+use Rattle.std.proofs.Common.{◌≡◌, ℕ, ◌<◌, ◌⊎◌, List, length, Some, sym, refl, inl, inr, ⊎_elim, arith}
 use Rattle.std.proofs.lemmas.Bool.{cases_Bool, cases_eq, cases_lt, cases_order, both_ways}
 use Rattle.grid.specs.declared.geometry.Triangle.{Triangle}
 use Rattle.mesh.specs.declared.verdicts.Counts.{Counts}
 use Rattle.mesh.specs.declared.verdicts.Verdict.{Verdict}
 use Rattle.mesh.specs.declared.verdicts.Verdict.TheVariants as verdict
-use Rattle.mesh.specs.Triangles.{triangle_at, Runs, Apart, Below, Has}
+use Rattle.mesh.specs.Triangles.{triangle_at, Runs, Apart, Below}
 use Rattle.mesh.specs.Rings.{At, OneRing, MoreRings}
 use Rattle.mesh.specs.Surfaces.{Surface}
 use Rattle.mesh.specs.Counting.{is_at}
 use Rattle.mesh.specs.First.{Clear, First}
-use Rattle.mesh.specs.Faults.{Misnames, Misnamed, Doubled, Unpaired, Bare, Fault}
+use Rattle.mesh.specs.Faults.{Misnamed, Doubled, Unpaired, Bare, Fault}
 use Rattle.mesh.specs.Verdicts.{report, Counted, Judged, SoundForSurfaces}
 use Rattle.mesh.proofs.Counting.{some_or}
 use Rattle.mesh.proofs.Round.{Mesh, at_is, is_at_at, ring_or}

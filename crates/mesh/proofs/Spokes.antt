@@ -1,12 +1,12 @@
 -- Turning from neighbour to neighbour, by the table of directed edges, goes along with the triangles. Assumes nothing.
-use Rattle.std.proofs.Common.{◌≡◌, ℕ, zero, suc, ◌<◌, List, length, Option, unwrap_or, sym, refl, ap, ◌∙◌, subst}
+use Rattle.std.proofs.Common.{◌≡◌, ℕ, zero, suc, List, length, Option, unwrap_or, sym, ap, ◌∙◌, subst}
 use Rattle.grid.specs.declared.geometry.Triangle.{Triangle}
 use Rattle.keymap.specs.declared.table.Entry.{Entry}
 use Rattle.mesh.specs.declared.sides.DirectedEdge.{DirectedEdge}
 use Rattle.mesh.specs.Triangles.{triangle_at, Runs, Has}
 use Rattle.mesh.specs.Rings.{At, OneRing, MoreRings}
 use Rattle.mesh.specs.Counting.{count, is_at}
-use Rattle.mesh.specs.EdgeTables.{found, turn, after, Noted, Early}
+use Rattle.mesh.specs.EdgeTables.{turn, after, Noted, Early}
 use Rattle.mesh.proofs.Round.{Mesh, before, before_one, after_one, runs_third, runs_corner, onward, goes, stepped, ring_whole, ring_more}
 
 module _ (ts : List (Triangle ℕ)) (mesh : Mesh ts) (es : List (Entry DirectedEdge)) (noted : Noted ts (length ts) es) (v : ℕ) where

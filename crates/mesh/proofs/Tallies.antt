@@ -1,10 +1,9 @@
 -- One triangle more in the notes of the vertices, and what the notes say once all are in. Assumes nothing.
-use Rattle.std.proofs.Common.{◌≡◌, ℕ, ◌+◌, ◌<◌, ◌≤◌, true, false, cond, ◌⊎◌, List, length, sym, refl, ap, ◌∙◌, subst, inl, inr, ⊎_elim, arith}
-use Rattle.std.proofs.lemmas.Bool.{cases_Bool, cases_eq, cond-true, cond-false, both_ways}
+use Rattle.std.proofs.Common.{◌≡◌, ℕ, ◌+◌, ◌<◌, ◌≤◌, false, cond, List, length, sym, refl, ap, ◌∙◌, subst, inl, inr, ⊎_elim, arith}
+use Rattle.std.proofs.lemmas.Bool.{cases_Bool, cond-true, cond-false, both_ways}
 use Rattle.grid.specs.declared.geometry.Triangle.{Triangle}
 use Rattle.mesh.specs.declared.verdicts.VertexRecord.{VertexRecord}
 use Rattle.mesh.specs.Triangles.{triangle_at, Corner, Runs, Apart, Has}
-use Rattle.mesh.specs.Rings.{At}
 use Rattle.mesh.specs.Faults.{Bare}
 use Rattle.mesh.specs.Counting.{count, is_at}
 use Rattle.mesh.specs.VertexNotes.{degree_at, neighbour_at, Tallied, Surveyed}

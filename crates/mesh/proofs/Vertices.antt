@@ -1,5 +1,5 @@
 -- What the notes of the vertices and the table of directed edges say of bare and torn vertices. Assumes nothing.
-use Rattle.std.proofs.Common.{◌≡◌, ℕ, ◌<◌, ◌≤◌, List, length, Some, None, Option, sym, refl, subst, ⊎_elim, arith}
+use Rattle.std.proofs.Common.{◌≡◌, ℕ, ◌<◌, List, length, Some, None, Option, sym, subst, ⊎_elim, arith}
 use Rattle.std.proofs.lemmas.Bool.{cases_eq}
 use Rattle.grid.specs.declared.geometry.Triangle.{Triangle}
 use Rattle.keymap.specs.declared.table.Entry.{Entry}
@@ -8,7 +8,6 @@ use Rattle.mesh.specs.declared.verdicts.VertexRecord.{VertexRecord}
 use Rattle.mesh.specs.Rings.{OneRing, MoreRings}
 use Rattle.mesh.specs.First.{Clear, First}
 use Rattle.mesh.specs.Faults.{Misnamed, Doubled, Unpaired, Bare, Fault}
-use Rattle.mesh.specs.Counting.{count, is_at}
 use Rattle.mesh.specs.EdgeTables.{Noted, Early}
 use Rattle.mesh.specs.VertexNotes.{degree_at, neighbour_at, Surveyed}
 use Rattle.mesh.proofs.Round.{Mesh}

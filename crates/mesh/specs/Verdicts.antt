@@ -1,5 +1,5 @@
 -- What an inspection answers.
-use Rattle.std.specs.Prelude.{◌≡◌, ℕ, ◌-◌, ◌*◌, ◌^◌, ◌<◌, ◌≤◌, min, cond, ◌⊎◌, List, length, pos, ◌+ℤ◌, ◌-ℤ◌, Some, None, Ok, Err, Option, Result, nat_lt}
+use Rattle.std.specs.Prelude.{◌≡◌, ℕ, ◌-◌, ◌*◌, ◌^◌, ◌<◌, min, cond, ◌⊎◌, List, length, pos, ◌+ℤ◌, ◌-ℤ◌, Some, None, Ok, Err, Option, Result, nat_lt}
 use Rattle.std.proofs.Common.{inl, inr}
 use Rattle.grid.specs.declared.geometry.Triangle.{Triangle}
 use Rattle.refusal.specs.declared.refusals.Refusal.{Refusal}

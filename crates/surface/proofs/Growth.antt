@@ -1,5 +1,5 @@
 -- Marching a cell adds as many vertices as it needs, and there is room for each. Assumes nothing.
-use Rattle.std.proofs.Common.{◌≡◌, ℕ, zero, suc, ◌+◌, ◌-◌, ◌<◌, ◌≤◌, min, Bool, true, false, cond, not, ◌&&◌, ◌≢◌, ◌⊎◌, List, [], ◌∷◌, length, get_or, take, set, is_some, Some, None, count_by, Option, sym, refl, ap, ◌∙◌, subst, inl, inr, ⊎_elim, add-one, arith, length-set}
+use Rattle.std.proofs.Common.{◌≡◌, ℕ, zero, suc, ◌+◌, ◌<◌, ◌≤◌, Bool, true, false, cond, not, ◌&&◌, ◌⊎◌, List, [], ◌∷◌, length, get_or, take, is_some, Some, None, count_by, Option, sym, refl, ap, ◌∙◌, subst, inl, inr, ⊎_elim, add-one, arith, length-set}
 use Rattle.std.specs.List.{ContainsAt as Has}
 use Rattle.std.proofs.lemmas.List.{get_or_default, take_all}
 use Rattle.std.proofs.lemmas.List.Sums.{fold_more, get_or-le-sum_by, sum_by-cons}
@@ -13,13 +13,12 @@ use Rattle.grid.specs.EdgeKeys.{vertex_on, with_vertex}
 use Rattle.keymap.specs.declared.table.Entry.{Entry}
 use Rattle.keymap.specs.Frees.{free}
 use Rattle.mesh.specs.declared.records.Coordinates.{Coordinates}
-use Rattle.mesh.specs.declared.records.Vertex.{Vertex}
-use Rattle.topology.specs.Crossings.{Named, CornerOf}
+use Rattle.topology.specs.Crossings.{CornerOf}
 use Rattle.topology.proofs.Crossed.{cell_crossings, one_less}
 use Rattle.surface.specs.Rooms.{room_left}
 use Rattle.surface.specs.Needs.{bare, wanting}
 use Rattle.surface.specs.Fits.{Fits, FitsTriangle, FitsAll}
-use Rattle.surface.specs.States.{Numbering, Tables, numbering, named, named_all, added, added_all}
+use Rattle.surface.specs.States.{Numbering, Tables, named, named_all, added, added_all}
 use Rattle.surface.specs.Ties.{Tied}
 use Rattle.surface.proofs.Ties.{same_edge, held_now, others_kept, one_taken, named_kept, named_next, tied_next}
 

@@ -1,30 +1,30 @@
 -- What the calls of a march add up to. Assumes nothing.
-use Rattle.std.proofs.Common.{◌≡◌, ℕ, zero, suc, ◌+◌, ◌-◌, ◌<◌, ◌≤◌, min, Bool, true, false, cond, not, ◌&&◌, leb, List, [], ◌∷◌, length, get_or, take, set, Some, None, Ok, fold, count_by, filter, Option, sym, refl, ap, ◌∙◌, subst, ⊎_elim, arith, length-set}
+use Rattle.std.proofs.Common.{◌≡◌, ℕ, ◌+◌, ◌≤◌, Bool, true, false, cond, ◌&&◌, leb, List, [], ◌∷◌, length, set, Some, None, Ok, count_by, filter, Option, sym, refl, ap, ◌∙◌, subst, arith, length-set}
 use mathlib.Core.Logic.{∥∥₁_elim, ∥∥₁_prop}
 use native.Mathlib.Bridge.{le_prop}
 use native.Mathlib.Nat.{ℕ_set}
 use Rattle.std.proofs.lemmas.List.{nil_from_length}
 use Rattle.std.proofs.lemmas.List.Sums.{sum_by-cons}
-use Rattle.std.proofs.lemmas.Bool.{cases_Bool, leb-true}
+use Rattle.std.proofs.lemmas.Bool.{leb-true}
 use Rattle.grid.specs.declared.geometry.Point.{Point}
 use Rattle.grid.specs.declared.geometry.GridEdge.{GridEdge}
 use Rattle.grid.specs.declared.geometry.Triangle.{Triangle}
 use Rattle.refusal.specs.declared.refusals.Refusal.{Refusal}
 use Rattle.refusal.specs.declared.refusals.Refusal.TheVariants.{EntryRoom, VertexRoom, TriangleRoom}
-use Rattle.grid.specs.Points.{Sides, crossed}
+use Rattle.grid.specs.Points.{crossed}
 use Rattle.grid.specs.Cells.{cell_base, cell_edges, cell_triangles}
-use Rattle.grid.specs.Patterns.{corner_flags, flag_edges, flag_triangles}
+use Rattle.grid.specs.Patterns.{corner_flags, flag_triangles}
 use Rattle.grid.specs.Shapes.{shapes_refusal}
 use Rattle.grid.proofs.Patterns.{edges_by_flags, triangles_by_flags}
 use Rattle.keymap.specs.declared.table.Entry.{Entry}
 use Rattle.keymap.specs.Frees.{free}
 use Rattle.mesh.specs.declared.records.Coordinates.{Coordinates}
 use Rattle.surface.specs.declared.sizes.Need.{Need}
-use Rattle.surface.specs.Fits.{Fits, FitsTriangle, FitsAll}
+use Rattle.surface.specs.Fits.{Fits, FitsAll}
 use Rattle.surface.specs.Needs.{bare, wanting, need, flag_need, lack}
 use Rattle.surface.specs.Marches.{State, Field, cell_refusal, room_refusal, else_by, march_refusal, marched, March}
 use Rattle.surface.specs.Rooms.{room_left}
-use Rattle.surface.specs.States.{Numbering, Tables, numbering, tables, added, added_all}
+use Rattle.surface.specs.States.{Numbering, Tables, tables, added, added_all}
 use Rattle.surface.specs.Ties.{Tied}
 use Rattle.surface.proofs.Growth.{Ready, fits_all, grown, tied_after}
 

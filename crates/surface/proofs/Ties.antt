@@ -1,11 +1,10 @@
 -- An edge that gets the next vertex: what the map then holds, and that it stays tied to the vertex records. Assumes nothing.
-use Rattle.std.proofs.Common.{◌≡◌, ℕ, ◌+◌, ◌-◌, ◌<◌, ◌≤◌, min, Bool, true, false, cond, not, ◌≢◌, ◌⊎◌, List, [], ◌∷◌, length, get_or, set, is_some, Some, None, Option, sym, refl, ap, ◌∙◌, subst, inl, inr, ⊎_elim, arith, length-set, get_or-set_other, get_or-set_same}
+use Rattle.std.proofs.Common.{◌≡◌, ℕ, ◌+◌, ◌<◌, true, ◌≢◌, ◌⊎◌, List, length, get_or, set, is_some, Some, None, Option, sym, ap, ◌∙◌, subst, inl, inr, ⊎_elim, arith, length-set, get_or-set_other, get_or-set_same}
 use Rattle.std.proofs.lemmas.Bool.{cases_Bool, cases_eq, true≢false}
-use Rattle.grid.specs.declared.geometry.Point.{Point}
 use Rattle.grid.specs.declared.geometry.GridEdge.{GridEdge}
 use Rattle.grid.specs.EdgeKeys.{edge_meaning, edge_hash, vertex_on, with_vertex}
 use Rattle.keymap.specs.declared.table.Entry.{Entry}
-use Rattle.keymap.specs.Probe.{alike, slot, lookup, put, Sound}
+use Rattle.keymap.specs.Probe.{alike, slot, Sound}
 use Rattle.keymap.specs.Law.{Maps}
 use Rattle.keymap.specs.Frees.{free}
 use Rattle.keymap.proofs.Frees.{slot_free, free_new, length_put}
@@ -13,7 +12,6 @@ use Rattle.keymap.proofs.Laws.{alike_same, alike_true, put_maps}
 use Rattle.mesh.specs.declared.records.Coordinates.{Coordinates}
 use Rattle.mesh.specs.declared.records.Vertex.{Vertex}
 use Rattle.surface.specs.Rooms.{room_left}
-use Rattle.surface.specs.Fits.{Fits}
 use Rattle.surface.specs.States.{Numbering, numbering, named, named_by}
 use Rattle.surface.specs.Ties.{Tied}
 

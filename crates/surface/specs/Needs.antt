@@ -1,5 +1,5 @@
 -- What a cell needs, and where there is no room for it.
-use Rattle.std.specs.Prelude.{ℕ, Bool, true, false, cond, not, ◌&&◌, List, length, is_some, Some, None, count_by, Option, nat_le}
+use Rattle.std.specs.Prelude.{ℕ, Bool, cond, not, ◌&&◌, List, length, is_some, Some, None, count_by, Option, nat_le}
 use Rattle.grid.specs.declared.geometry.Point.{Point}
 use Rattle.grid.specs.declared.geometry.GridEdge.{GridEdge}
 use Rattle.refusal.specs.declared.refusals.Refusal.{Refusal}

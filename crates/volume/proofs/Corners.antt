@@ -1,7 +1,7 @@
 -- The eight corners of a cell: which of them are inside, told one by one, or at once where a table has them all. Assumes nothing.
-use Rattle.std.proofs.Common.{◌≡◌, ℕ, ◌+◌, ◌-◌, ◌*◌, ◌<◌, ◌≤◌, Bool, true, false, cond, ◌&&◌, leb, List, [], ◌∷◌, ◌++◌, map, length, get_or, take, set, None, Option, sym, refl, ap, ◌∙◌, mul_assoc, mul-add, arith, length-set}
+use Rattle.std.proofs.Common.{◌≡◌, ℕ, ◌+◌, ◌-◌, ◌*◌, ◌<◌, ◌≤◌, Bool, true, cond, ◌&&◌, List, [], ◌∷◌, ◌++◌, map, length, get_or, take, set, None, Option, sym, ap, ◌∙◌, mul_assoc, mul-add, arith, length-set}
 use Rattle.std.proofs.lemmas.List.{take_more_set, map_more, take_all}
-use Rattle.std.proofs.lemmas.Bool.{le-leb, and_from}
+use Rattle.std.proofs.lemmas.Bool.{le-leb}
 use Rattle.grid.specs.declared.geometry.Point.{Point}
 use Rattle.grid.specs.Points.{Sides, ◌⊕◌, offset, sampled}
 use Rattle.grid.specs.Patterns.{codes, corner_flags}

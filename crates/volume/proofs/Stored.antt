@@ -1,11 +1,10 @@
 -- A sample is stored under its own numbers: a bound that goes with them has one proof only.
-use Rattle.std.proofs.Common.{◌≡◌, ℕ, ◌^◌, ◌<◌, ◌≤◌, Bool, true, false, ◌&&◌, ltb, leb, Some, None, Option, refl, ap, ◌∙◌}
+use Rattle.std.proofs.Common.{◌≡◌, ◌^◌, ◌<◌, ◌≤◌, Bool, true, false, ◌&&◌, ltb, leb, Some, refl, ap}
 use mathlib.Core.HLevel.{is_prop→PathP}
 use native.Mathlib.Bridge.{le_prop}
 use Rattle.std.proofs.lemmas.Bool.{false≢true, lt-ltb, le-leb, and_from}
 use Rattle.volume.specs.declared.samples.Density.{Density}
 use Rattle.volume.specs.declared.samples.Ratio.{Ratio}
-use Rattle.volume.specs.declared.samples.RatioParts.{RatioParts}
 use Rattle.volume.specs.Kinds.{if_so, density_stored, ratio_stored, parts, makes_ratio}
 
 if_so_passed : {X : Type 0} (b : Bool) (make : b ≡ true → X) (x : X) → b ≡ true → ((e : b ≡ true) → make e ≡ x) → if_so b make ≡ Some x

@@ -1,10 +1,10 @@
 -- The bounds of a crossing between ratios.
-use Rattle.std.specs.Prelude.{◌≡◌, ℕ, ◌+◌, ◌-◌, ◌*◌, ◌^◌, ◌<◌, ◌≤◌, true, false, refl}
+use Rattle.std.specs.Prelude.{◌≡◌, ℕ, ◌-◌, ◌*◌, ◌^◌, ◌<◌, ◌≤◌, false, refl}
 use Rattle.std.proofs.Common.{arith, mul-pos}
 use Rattle.std.proofs.lemmas.Nat.{mul-le}
 use Rattle.std.proofs.lemmas.Bool.{leb-false}
 use Rattle.volume.specs.declared.samples.Ratio.{Ratio}
-use Rattle.volume.specs.Kinds.{over, under, ratio_inside, ratio_crossing}
+use Rattle.volume.specs.Kinds.{under, ratio_inside, ratio_crossing}
 
 -- what a product of two parts leaves over, times a part
 pub amount : (a b x c d : ℕ) → x ≡ a * b → a ≤ 4095 → b ≤ 4095 → d ≤ 4095 → (x - c) * d ≤ 68669157375

@@ -1,5 +1,5 @@
 -- The volumes: which sample each has at which grid point.
-use Rattle.std.specs.Prelude.{ℕ, ◌+◌, ◌-◌, ◌*◌, min, Bool, cond, List, Some, None, Option, slice_index_or}
+use Rattle.std.specs.Prelude.{ℕ, ◌+◌, ◌-◌, ◌*◌, min, cond, List, Some, None, Option, slice_index_or}
 use Rattle.grid.specs.declared.geometry.Point.{Point}
 use Rattle.grid.specs.Points.{Sides, sampled}
 use Rattle.grid.specs.Shapes.{sides}

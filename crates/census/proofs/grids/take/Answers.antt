@@ -1,7 +1,7 @@
-use Rattle.std.proofs.Common.{◌≡◌, ℕ, ◌+◌, ◌<◌, ◌≤◌, Bool, List, sym, ap, ◌∙◌, subst, arith}
+use Rattle.std.proofs.Common.{◌≡◌, ℕ, ◌+◌, ◌<◌, ◌≤◌, Bool, List, ap, ◌∙◌, subst, arith}
 use Rattle.grid.specs.declared.geometry.Point.{Point}
 use Rattle.grid.specs.Points.{Sides}
-use Rattle.grid.specs.Cells.{tetrahedra, cell_count, cell_base}
+use Rattle.grid.specs.Cells.{tetrahedra, cell_count}
 use Rattle.grid.specs.Shapes.{sides}
 use Rattle.topology.specs.Sides.{Padded}
 use Rattle.topology.specs.Census.{triangle_codes}

@@ -1,10 +1,9 @@
-use Rattle.std.proofs.Common.{◌≡◌, ℕ, ◌≤◌, List, map, length, replicate, Some, None, vec_items, Option, sym, refl, ap, ◌∙◌, subst, arith}
-use lib.ListN.{length-map}
+use Rattle.std.proofs.Common.{ℕ, List, vec_items, Option, sym, ap, ◌∙◌, subst, arith}
 use lib.Seq.{sets}
 use Rattle.std.proofs.lemmas.List.{with_items_is}
 use Rattle.grid.specs.Shapes.{sides}
 use Rattle.volume.specs.declared.files.FileHeader.{FileHeader}
-use Rattle.volume.specs.Files.{file_refusal, file_sides, sample_count, density_samples, label_samples, density_level, label_level, Held}
+use Rattle.volume.specs.Files.{file_refusal, file_sides, density_samples, label_samples, density_level, label_level, Held}
 use Rattle.volume.specs.Kinds.{density_inside, density_crossing, density_stored, label_inside, label_crossing, label_stored}
 use Rattle.extract.proofs.Reading.{too_long, refused_file, density_page, label_page, density_fits, label_fits, same_field, length_density, length_label, answered, missing}
 use Rattle.extract.proofs.files.page_of_file.Goals as goal

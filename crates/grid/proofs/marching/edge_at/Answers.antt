@@ -1,6 +1,4 @@
 use Rattle.std.proofs.Common.{◌≡◌, ℕ, ◌-◌, ap, ◌∙◌, arith}
-use Rattle.grid.specs.declared.geometry.GridEdge.{GridEdge}
-use Rattle.grid.specs.declared.geometry.Point.{Point}
 use Rattle.grid.specs.Points.{◌⊕◌, offset}
 use Rattle.grid.specs.Cases.{low_position, high_position}
 use Rattle.grid.specs.Cells.{tetrahedra, corner, vertex, edge}

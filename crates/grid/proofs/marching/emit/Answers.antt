@@ -1,8 +1,6 @@
-use Rattle.std.proofs.Common.{◌≡◌, ℕ, ◌+◌, ◌<◌, ◌≤◌, Bool, false, List, map, length, get_or, take, set, sym, ap, ◌∙◌, subst, arith}
+use Rattle.std.proofs.Common.{◌≡◌, ◌<◌, List, map, length, get_or, set, ap, ◌∙◌, arith}
 use lib.Seq.{sets}
 use Rattle.std.proofs.lemmas.List.{take_all}
-use Rattle.grid.specs.declared.geometry.GridEdge.{GridEdge}
-use Rattle.grid.specs.declared.geometry.Triangle.{Triangle}
 use Rattle.grid.specs.Cells.{odd, placed}
 use Rattle.grid.specs.Cases.{row, no_case}
 use Rattle.grid.proofs.Rows.{row_length}

@@ -1,4 +1,4 @@
-use Rattle.std.proofs.Common.{◌≡◌, ◌+◌, ◌≤◌, map, take}
+use Rattle.std.proofs.Common.{◌≡◌, ◌+◌, map, take}
 use lib.Seq.{sets}
 use Rattle.grid.specs.Cells.{odd, placed}
 use Rattle.grid.specs.Cases.{row}

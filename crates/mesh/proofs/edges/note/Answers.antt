@@ -1,9 +1,9 @@
-use Rattle.std.proofs.Common.{◌≡◌, ℕ, ◌+◌, ◌≤◌, true, List, [], ◌∷◌, is_some, sym, refl, ap, ◌∙◌, arith, rules}
+use Rattle.std.proofs.Common.{◌≡◌, ℕ, ◌+◌, ◌≤◌, true, [], ◌∷◌, is_some, sym, refl, arith}
 use Rattle.keymap.specs.Probe.{slot}
 use Rattle.keymap.specs.Frees.{free}
 use Rattle.keymap.proofs.Frees.{free_crowded, free_put}
 use Rattle.mesh.specs.Sides.{edge_ends, edge_hash}
-use Rattle.mesh.specs.EdgeTables.{found, Noting}
+use Rattle.mesh.specs.EdgeTables.{found}
 use Rattle.mesh.proofs.edges.note.Goals as goal
 
 same_ends : (a b x y : ℕ) → a ∷ b ∷ [] ≡ x ∷ y ∷ [] → (a ≡ x) × (b ≡ y)

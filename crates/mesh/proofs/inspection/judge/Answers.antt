@@ -1,7 +1,6 @@
-use Rattle.std.proofs.Common.{◌≡◌, ℕ, ◌*◌, ◌<◌, length, Some, None, sym, refl, subst, arith}
+use Rattle.std.proofs.Common.{ℕ, length, Some, None, sym, refl, subst, arith}
 use Rattle.mesh.specs.Surfaces.{Surface}
 use Rattle.mesh.specs.Verdicts.{Counted}
-use Rattle.mesh.proofs.Round.{Mesh}
 use Rattle.mesh.proofs.Judging.{clear_mesh, clear_surface, judged_doubled, judged_unpaired, judged_bare, judged_torn}
 use Rattle.mesh.proofs.Vertices.{first_bare, first_torn, nothing}
 use Rattle.mesh.proofs.inspection.judge.Goals as goal

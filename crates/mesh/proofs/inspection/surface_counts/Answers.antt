@@ -1,4 +1,4 @@
-use Rattle.std.proofs.Common.{◌≡◌, refl, rules}
+use Rattle.std.proofs.Common.{refl, rules}
 use Rattle.mesh.proofs.Round.{surface_mesh}
 use Rattle.mesh.proofs.EdgeCount.{mesh_edges}
 use Rattle.mesh.proofs.inspection.surface_counts.Goals as goal

@@ -1,5 +1,4 @@
-use Rattle.std.proofs.Common.{◌≡◌, refl, arith, rules}
-use Rattle.std.proofs.lemmas.Bool.Decides.{nat_tests}
+use Rattle.std.proofs.Common.{arith, rules}
 use Rattle.mesh.specs.Forests.{parent_of, fixes}
 use Rattle.mesh.proofs.Counting.{count_none, count_more}
 use Rattle.mesh.proofs.parts.count_roots.Goals as goal

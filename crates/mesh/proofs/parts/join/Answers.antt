@@ -1,4 +1,4 @@
-use Rattle.std.proofs.Common.{◌≡◌, ◌<◌, ◌≤◌, length, refl, arith, rules}
+use Rattle.std.proofs.Common.{refl, arith}
 use Rattle.mesh.proofs.Pointers.{joined_left, joined_right}
 use Rattle.mesh.proofs.parts.join.Goals as goal
 

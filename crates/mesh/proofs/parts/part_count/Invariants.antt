@@ -1,4 +1,4 @@
-use Rattle.std.proofs.Common.{◌≡◌, ℕ, length, take}
+use Rattle.std.proofs.Common.{take}
 use Rattle.mesh.specs.Forests.{Forest, labels}
 use Rattle.mesh.proofs.parts.part_count.Given as goal
 

@@ -1,4 +1,4 @@
-use Rattle.std.proofs.Common.{◌≡◌, ◌<◌, length, ap, ◌∙◌, arith, get_or-set_other, get_or-set_same, below_more}
+use Rattle.std.proofs.Common.{ap, ◌∙◌, arith, get_or-set_other, get_or-set_same, below_more}
 use Rattle.mesh.specs.declared.verdicts.VertexRecord.{VertexRecord}
 use Rattle.mesh.specs.VertexNotes.{no_record}
 use Rattle.mesh.proofs.rings.clear_records.Goals as goal

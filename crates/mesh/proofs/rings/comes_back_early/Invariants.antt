@@ -1,4 +1,4 @@
-use Rattle.std.proofs.Common.{◌≡◌, ℕ, ◌+◌, ◌<◌}
+use Rattle.std.proofs.Common.{◌≡◌, ℕ, ◌<◌}
 use Rattle.mesh.specs.EdgeTables.{turn, after}
 use Rattle.mesh.proofs.rings.comes_back_early.Given as goal
 

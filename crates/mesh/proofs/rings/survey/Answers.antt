@@ -1,6 +1,5 @@
-use Rattle.std.proofs.Common.{◌≡◌, ℕ, ◌+◌, ◌<◌, ◌≤◌, length, sym, refl, ap, ◌∙◌, subst, arith, rules}
+use Rattle.std.proofs.Common.{◌<◌, length, sym, arith}
 use Rattle.mesh.specs.Triangles.{triangle_at}
-use Rattle.mesh.specs.VertexNotes.{degree_at, Surveyed}
 use Rattle.mesh.proofs.Tallies.{surveyed_none, surveyed_more, degree_le}
 use Rattle.mesh.proofs.rings.survey.Goals as goal
 

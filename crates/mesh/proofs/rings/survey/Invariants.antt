@@ -1,4 +1,3 @@
-use Rattle.std.proofs.Common.{◌≡◌}
 use Rattle.mesh.specs.VertexNotes.{Surveyed}
 use Rattle.mesh.proofs.rings.survey.Given as goal
 

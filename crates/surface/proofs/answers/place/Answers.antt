@@ -1,4 +1,4 @@
-use Rattle.std.proofs.Common.{◌≡◌, sym, refl, ap, ◌∙◌}
+use Rattle.std.proofs.Common.{ap, ◌∙◌}
 use Rattle.surface.specs.Answers.{along, from_low, place}
 use Rattle.surface.proofs.answers.place.Goals as goal
 

@@ -1,4 +1,4 @@
-use Rattle.std.proofs.Common.{ℕ, ◌+◌, ◌*◌, ◌/◌, ◌<◌, ◌≤◌, refl, div-lt_iff_lt-mul, arith, rules}
+use Rattle.std.proofs.Common.{ℕ, ◌+◌, ◌*◌, ◌/◌, ◌<◌, ◌≤◌, refl, div-lt_iff_lt-mul, arith}
 use Rattle.surface.proofs.answers.rounded.Goals as goal
 
 small : (m den : ℕ) → 0 < den → m ≤ den → (20000 * m + den) / (2 * den) < 10001

@@ -1,6 +1,5 @@
-use Rattle.std.proofs.Common.{◌≡◌, ℕ, ◌+◌, sym, refl, ap, ◌∙◌, arith}
+use Rattle.std.proofs.Common.{refl, ◌∙◌, arith}
 use Rattle.surface.specs.Answers.{place}
-use Rattle.surface.specs.States.{Tables, numbering, tables, added}
 use Rattle.surface.proofs.Namings.{added_none, added_more, added_all_of, added_count}
 use Rattle.surface.proofs.naming.add_all.Goals as goal
 

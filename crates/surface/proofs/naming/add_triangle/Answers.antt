@@ -1,4 +1,4 @@
-use Rattle.std.proofs.Common.{◌≡◌, length, sym, refl, ap, ◌∙◌, length-set}
+use Rattle.std.proofs.Common.{length, ap, ◌∙◌, length-set}
 use Rattle.surface.specs.Answers.{place}
 use Rattle.surface.specs.States.{numbering}
 use Rattle.surface.proofs.Namings.{added_made}

@@ -1,4 +1,4 @@
-use Rattle.std.proofs.Common.{◌≡◌, ℕ, ◌<◌, None, sym, refl, ap, ◌∙◌, arith}
+use Rattle.std.proofs.Common.{sym, refl, arith}
 use Rattle.grid.specs.EdgeKeys.{vertex_on, with_vertex}
 use Rattle.keymap.proofs.Frees.{free_crowded}
 use Rattle.surface.specs.Answers.{place}

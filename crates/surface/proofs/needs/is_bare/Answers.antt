@@ -1,4 +1,4 @@
-use Rattle.std.proofs.Common.{◌≡◌, not, is_some, sym, ap, ◌∙◌, rules}
+use Rattle.std.proofs.Common.{rules}
 use Rattle.grid.specs.EdgeKeys.{vertex_on}
 use Rattle.surface.proofs.needs.is_bare.Goals as goal
 

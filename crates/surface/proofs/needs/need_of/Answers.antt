@@ -1,5 +1,4 @@
-use Rattle.std.proofs.Common.{◌≡◌, ℕ, ◌-◌, List, length, take, count_by, sym, refl, ap, ◌∙◌, arith}
-use Rattle.grid.specs.declared.geometry.GridEdge.{GridEdge}
+use Rattle.std.proofs.Common.{◌≡◌, ℕ, ◌-◌, take, count_by, ap, ◌∙◌, arith}
 use Rattle.surface.specs.Needs.{flag_need, bare}
 use Rattle.surface.proofs.needs.need_of.Goals as goal
 

@@ -1,14 +1,11 @@
-use Rattle.std.proofs.Common.{◌≡◌, ℕ, ◌+◌, ◌<◌, ◌≤◌, List, map, length, get_or, take, sym, refl, ap, ◌∙◌, subst, arith}
+use Rattle.std.proofs.Common.{◌≡◌, ℕ, ◌<◌, List, map, length, get_or, take, sym, ap, ◌∙◌, arith}
 use lib.ListN.{length-map}
 use lib.Seq.{sets, length-sets}
 use Rattle.std.specs.List.{flat_map}
 use Rattle.std.proofs.lemmas.List.{take_all}
-use Rattle.std.proofs.lemmas.Bool.{cases_lt}
-use Rattle.grid.specs.declared.geometry.GridEdge.{GridEdge}
-use Rattle.grid.specs.declared.geometry.Triangle.{Triangle}
 use Rattle.grid.specs.Cells.{odd, placed}
 use Rattle.grid.specs.Cases.{row}
-use Rattle.grid.specs.Patterns.{six, flag_mask, flag_tet, flag_triangles}
+use Rattle.grid.specs.Patterns.{six, flag_tet, flag_triangles}
 use Rattle.grid.proofs.Writes.{sets_joined, length_joined, take_sets}
 use Rattle.grid.proofs.Patterns.{six_at}
 use Rattle.grid.proofs.cells.Cell.triangles.Goals as goal

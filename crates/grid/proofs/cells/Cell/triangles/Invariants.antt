@@ -1,4 +1,4 @@
-use Rattle.std.proofs.Common.{◌≡◌, ◌+◌, ◌*◌, ◌≤◌, length, take, replicate}
+use Rattle.std.proofs.Common.{◌≡◌, ◌*◌, ◌≤◌, length, take}
 use lib.Seq.{sets}
 use Rattle.std.specs.List.{flat_map}
 use Rattle.grid.specs.Patterns.{flag_tet, six}

@@ -1,4 +1,4 @@
-use Rattle.std.proofs.Common.{◌⊎◌, refl, inl, inr, arith, rules}
+use Rattle.std.proofs.Common.{refl, rules}
 use Rattle.grid.specs.Points.{top, ◌⊕◌, offset}
 use Rattle.grid.proofs.geometry.GridEdge.top.Goals as goal
 

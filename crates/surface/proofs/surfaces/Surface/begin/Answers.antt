@@ -1,4 +1,4 @@
-use Rattle.std.proofs.Common.{◌≡◌, ℕ, ◌≤◌, length, replicate, sym, refl, ap, ◌∙◌, subst, arith}
+use Rattle.std.proofs.Common.{◌≡◌, ℕ, length, replicate, ap, ◌∙◌, arith}
 use Rattle.grid.specs.Shapes.{sides}
 use Rattle.keymap.specs.declared.table.Entry.TheVariants.{Free}
 use Rattle.surface.specs.Marches.{State, begun}

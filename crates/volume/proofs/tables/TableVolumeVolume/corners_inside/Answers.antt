@@ -1,4 +1,4 @@
-use Rattle.std.proofs.Common.{◌≡◌, ℕ, ◌*◌, length, refl, ap, ◌∙◌}
+use Rattle.std.proofs.Common.{◌≡◌, ℕ, ◌*◌, length, ap, ◌∙◌}
 use Rattle.grid.specs.Points.{◌⊕◌, offset}
 use Rattle.grid.specs.Shapes.{sides}
 use Rattle.grid.specs.Patterns.{corner_flags}

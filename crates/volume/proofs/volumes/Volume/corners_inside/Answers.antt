@@ -1,4 +1,4 @@
-use Rattle.std.proofs.Common.{◌≡◌, ℕ, ap, ◌∙◌}
+use Rattle.std.proofs.Common.{ℕ, ap, ◌∙◌}
 use Rattle.grid.specs.Points.{◌⊕◌, offset}
 use Rattle.grid.specs.Patterns.{corner_flags}
 use Rattle.volume.specs.Insides.{inside_at, answer_inside}

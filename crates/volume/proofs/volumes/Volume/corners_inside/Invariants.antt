@@ -1,4 +1,3 @@
-use Rattle.std.proofs.Common.{ℕ}
 use Rattle.grid.specs.Points.{◌⊕◌, offset}
 use Rattle.volume.specs.Insides.{inside_at}
 use Rattle.volume.proofs.Corners.{Filled}
