@@ -4,18 +4,18 @@ ghost use Rattle.grid.specs.Patterns.{flag};
 ghost use Rattle.topology.specs.Census.{triangle_codes};
 ghost use Rattle.census.specs.Counts.{edge_codes, flag_starting};
 
-// How many of the flags are set.
-fn count(flags: &[bool]) -> u64
-    ensures value { result ≡ count_by (λ b. b) flags.now }
-    ensures few { result ≤ length flags.now }
+// How many of the tests are met.
+fn count(tests: &[bool]) -> u64
+    ensures value { result ≡ count_by (λ b. b) tests.now }
+    ensures few { result ≤ length tests.now }
 {
-    let mut set = 0;
-    for flag in flags {
-        if *flag {
-            set += 1;
+    let mut met = 0;
+    for test in tests {
+        if *test {
+            met += 1;
         }
     }
-    set
+    met
 }
 
 // How many edges start at a point that is inside and have all corners inside, by the flags of the corners of its cell.

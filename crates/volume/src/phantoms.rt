@@ -5,7 +5,7 @@ ghost use Rattle.volume.specs.Volumes.{square_apart, squared_distance, phantom_s
 
 use crate::densities::density_of;
 use crate::samples::Density;
-use crate::volumes::Volume;
+use crate::volumes::{Volume, has_sample};
 use grid::{Point, Shape};
 
 // A ball of densities, whose centre is given in sample coordinates: the density falls with the squared distance from it.
@@ -48,7 +48,7 @@ impl Volume for Phantom {
     }
 
     fn sample_at(&self, p: Point) -> Option<Density> {
-        if !self.shape.is_sampled(p) {
+        if !has_sample(self.shape, p) {
             return None;
         }
         let far = self.squared_distance(p);

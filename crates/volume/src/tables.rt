@@ -6,7 +6,7 @@ ghost use Rattle.volume.specs.Blocks.{Inner, entry_inside, block};
 
 use crate::insides::answer_inside;
 use crate::kinds::SampleKind;
-use crate::volumes::Volume;
+use crate::volumes::{Volume, has_sample};
 use grid::{Cell, Point, Shape};
 
 // The samples of a given table: x runs first, then y, then z.
@@ -89,7 +89,7 @@ impl<K: SampleKind> Volume for TableVolume<'_, K> {
     }
 
     fn sample_at(&self, p: Point) -> Option<K> {
-        if !self.shape.is_sampled(p) {
+        if !has_sample(self.shape, p) {
             return None;
         }
         let i = place(self.shape, p);

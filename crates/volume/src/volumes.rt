@@ -1,6 +1,7 @@
 ghost use Rattle.std.specs.Prelude.{◌≡◌, length, Option};
 ghost use Rattle.grid.specs.declared.geometry.Point.{Point};
 ghost use Rattle.grid.specs.declared.shapes.Shape.{Shape};
+ghost use Rattle.grid.specs.Points.{sampled};
 ghost use Rattle.grid.specs.Shapes.{sides};
 ghost use Rattle.grid.specs.Patterns.{corner_flags};
 ghost use Rattle.volume.specs.Borders.{Bordered};
@@ -40,4 +41,11 @@ pub trait Volume {
         }
         all
     }
+}
+
+// Whether the point lies in the block of samples.
+pub(crate) fn has_sample(shape: Shape, p: Point) -> bool
+    ensures { result ≡ sampled (sides shape) p }
+{
+    1 <= p.x && p.x <= shape.nx && 1 <= p.y && p.y <= shape.ny && 1 <= p.z && p.z <= shape.nz
 }
