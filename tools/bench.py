@@ -1,7 +1,7 @@
 #!/usr/bin/python3
 """Compares the speed of laying a skin with VTK's and scikit-image's marching cubes, on one block and one core.
 
-Usage: tools/bench.py [ROUNDS]   (after `rt check bench`, which builds target/bin/bench; the others are Debian's python3-vtk9 and
+Usage: tools/bench.py [ROUNDS]   (after `rt run` in crates/bench, which builds crates/bench/out/bench; the others are Debian's python3-vtk9 and
 python3-skimage, and are left out where they are not installed)
 
 The block is the one of `bench`: a ball of radius 120 in 254 x 254 x 254 densities. Each program is given the samples in memory, and only
@@ -16,7 +16,7 @@ import time
 
 ROUNDS = int(sys.argv[1]) if len(sys.argv) > 1 else 5
 SIDE, CENTRE, LEVEL = 254, 126, 51135
-BENCH = os.path.join(os.path.dirname(os.path.abspath(__file__)), "..", "target", "bin", "bench")
+BENCH = os.path.join(os.path.dirname(os.path.abspath(__file__)), "..", "crates", "bench", "out", "bench")
 
 
 def report(name, triangles, seconds):

@@ -1,7 +1,7 @@
 #!/usr/bin/env python3
 """Compares `skin` with an independent program, on random volume files and damaged ones.
 
-Usage: tools/compare.py [COUNT [SEED]]   (after `rt check skin`, which builds target/bin/skin)
+Usage: tools/compare.py [COUNT [SEED]]   (after `rt run` in crates/skin, which builds crates/skin/out/skin)
 
 The program below shares no code with the crates: it follows docs/rules.md with dictionaries and fractions.
 """
@@ -159,7 +159,7 @@ def main():
     tally = {}
     for n in range(count):
         data = random_file(rng)
-        said = subprocess.run(["target/bin/skin"], input=data, stdout=subprocess.PIPE, check=True).stdout.decode()
+        said = subprocess.run(["crates/skin/out/skin"], input=data, stdout=subprocess.PIPE, check=True).stdout.decode()
         due = expected(data)
         if said != due:
             print("file %d differs: %s" % (n, data.hex()[:200]))
