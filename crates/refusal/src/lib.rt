@@ -3,4 +3,4 @@
 
 mod refusals;
 
-pub use refusals::{Code, Refusal};
+pub use refusals::{Axis, Code, Part, Refusal};

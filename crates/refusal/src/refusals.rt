@@ -1,15 +1,33 @@
-ghost use Rattle.std.specs.Prelude.{◌≡◌};
-ghost use Rattle.refusal.specs.Refusals.{code as code_of};
+ghost use Rattle.std.specs.Prelude.{◌≡◌, Some};
+ghost use Rattle.refusal.specs.Refusals.{axis_number, part_number, code as code_of, line};
+
+use std::error::Error;
+use std::fmt;
+
+// An axis of the grid.
+#[derive(Clone, Copy, PartialEq, Eq, Debug)]
+pub enum Axis {
+    X,
+    Y,
+    Z,
+}
+
+// A part of a ratio.
+#[derive(Clone, Copy, PartialEq, Eq, Debug)]
+pub enum Part {
+    Numerator,
+    Denominator,
+}
 
 // Why a call is refused. A refused call changes nothing.
 #[derive(Clone, Copy, PartialEq, Eq, Debug)]
 pub enum Refusal {
-    // A side is not from 1 to 254: the lowest such axis, 0 to 2.
-    Side(u8),
+    // A side is not from 1 to 254: the lowest such axis.
+    Side(Axis),
     // A cell, vertex or triangle number, an index or a coordinate lies outside: the first such number.
     Outside(u32),
     // The volume's shape is not the surface's: the lowest axis on which they differ.
-    OtherShape(u8),
+    OtherShape(Axis),
     // The cell is marched already.
     Marched(u32),
     // The mark table has no entry for the cell.
@@ -24,8 +42,8 @@ pub enum Refusal {
     FileLength(u64),
     // The kind byte of a file is neither 1 nor 2.
     FileKind,
-    // A part of a ratio is above 4,095, or part 1 is 0: the first such part.
-    RatioPart(u8),
+    // A part of a ratio is above 4,095, or its denominator is 0: the first such part.
+    RatioPart(Part),
     // A table is too short for what is read into it: the length needed.
     TableRoom(u64),
     // The page has no room for a line: its first free byte.
@@ -41,6 +59,29 @@ pub enum Refusal {
 pub struct Code {
     pub number: u8,
     pub place: u64,
+}
+
+impl From<Axis> for u64 {
+    ghost from_gives = { λ axis n. n ≡ axis_number axis };
+
+    fn from(axis: Axis) -> u64 {
+        match axis {
+            Axis::X => 0,
+            Axis::Y => 1,
+            Axis::Z => 2,
+        }
+    }
+}
+
+impl From<Part> for u64 {
+    ghost from_gives = { λ part n. n ≡ part_number part };
+
+    fn from(part: Part) -> u64 {
+        match part {
+            Part::Numerator => 0,
+            Part::Denominator => 1,
+        }
+    }
 }
 
 impl Refusal {
@@ -68,3 +109,15 @@ impl Refusal {
         Code { number, place }
     }
 }
+
+// `refused N P`: the number of the refusal, and its place.
+impl fmt::Display for Refusal {
+    ghost output = { λ e. Some (line e) };
+
+    fn fmt<W: fmt::Write>(&self, f: &mut fmt::Formatter<W>) -> fmt::Result {
+        let Code { number, place } = self.report();
+        write!(f, "refused {number} {place}")
+    }
+}
+
+impl Error for Refusal {}
