@@ -1,3 +1,4 @@
+pub mod Positions
 pub mod Seeks
 pub mod Laws
 pub mod Frees

@@ -1,95 +1,25 @@
--- What a table holds, after a put, by its entries and once it is cleared. Assumes nothing.
-use Rattle.std.proofs.Common.{◌≡◌, ℕ, zero, suc, ◌<◌, true, List, length, get_or, replicate, is_some, Some, None, Option, refl, ap, ◌∙◌, ⊎_elim, arith}
-use Rattle.std.proofs.lemmas.List.{get_or_past}
-use Rattle.std.proofs.lemmas.Bool.{cases_lt, false≢true}
+-- A cleared table is sound, and holds nothing. Assumes nothing.
+use Rattle.std.proofs.Common.{◌≡◌, ℕ, zero, suc, List, get_or, replicate, Some, None, Option, refl, ap}
 use Rattle.keymap.specs.declared.table.Entry.{Entry}
-use Rattle.keymap.specs.declared.table.Entry.TheVariants.{Free, Held}
-use Rattle.keymap.specs.Probe.{stops, slot, number_in, number_at, lookup, put, Sound}
-use Rattle.keymap.proofs.Laws.{alike_true, slot_stops, slot_below, lookup_set}
-
--- an entry that holds the number `n` for a key of the meaning `m`
-pub record Holder {K : Type 0} (meaning : K → List ℕ) (es : List (Entry K)) (m : List ℕ) (n : ℕ) : Type 0 where
-  pub index : ℕ
-  pub key : K
-  pub below : index < length es
-  pub held : get_or es index Free ≡ Held key n
-  pub means : meaning key ≡ m
+use Rattle.keymap.specs.Probe.{slot, number_in, number_at, lookup, Sound}
 
 module _ {K : Type 0} where
   -- each entry of a cleared table is free
-  pub get_d_cleared : (n i : ℕ) → get_or {A = Entry K} (replicate n Free) i Free ≡ Free
-  get_d_cleared zero i = refl
-  get_d_cleared (suc n) zero = refl
-  get_d_cleared (suc n) (suc i) = get_d_cleared n i
-
-  -- what holds a key is an entry of the table
-  pub held_below : (es : List (Entry K)) (i : ℕ) (k : K) (v : ℕ) → get_or es i Free ≡ Held k v → i < length es
-  held_below es i k v e =
-      ⊎_elim
-      (λ b. b)
-      (λ b. let p : get_or es i Free ≡ Free = get_or_past es i Free b in
-      let z : ◌≡◌ {A = ℕ} 0 1 = cc in
-      absurd (omega arith))
-      (cases_lt i (length es))
+  cleared_free : (n i : ℕ) → get_or {A = Option (Entry K)} (replicate n None) i None ≡ None
+  cleared_free zero i = refl
+  cleared_free (suc n) zero = refl
+  cleared_free (suc n) (suc i) = cleared_free n i
 
   module _ (meaning : K → List ℕ) (hashed : List ℕ → ℕ) where
-    pub sound_cleared : (n : ℕ) → Sound meaning hashed (replicate n Free)
+    pub sound_cleared : (n : ℕ) → Sound meaning hashed (replicate n None)
     sound_cleared n = record {
-      own = λ i k v e. let f : get_or {A = Entry K} (replicate n Free) i Free ≡ Free = get_d_cleared n i in
-          let z : ◌≡◌ {A = ℕ} 0 1 = cc in
-          absurd (omega arith);
+      own = λ i x e. let f : get_or {A = Option (Entry K)} (replicate n None) i None ≡ None = cleared_free n i in cc;
     }
 
-    cleared_at : (n : ℕ) (o : Option ℕ) → number_at {K = K} (replicate n Free) o ≡ None
+    cleared_at : (n : ℕ) (o : Option ℕ) → number_at {K = K} (replicate n None) o ≡ None
     cleared_at n None = refl
-    cleared_at n (Some i) = ap number_in (get_d_cleared n i)
+    cleared_at n (Some i) = ap number_in (cleared_free n i)
 
     -- a cleared table holds nothing
-    pub lookup_cleared : (n : ℕ) (m : List ℕ) → lookup meaning hashed (replicate n Free) m ≡ None
-    lookup_cleared n m = cleared_at n (slot meaning hashed (replicate n Free) m)
-
-    module _ (es : List (Entry K)) where
-      put_at : (k : K) (v : ℕ) (o : Option ℕ) → slot meaning hashed es (meaning k) ≡ o → is_some o ≡ true → lookup meaning hashed (put es o k v) (meaning k) ≡ Some v
-      put_at k v None e s = absurd (false≢true s)
-      put_at k v (Some i) e s = lookup_set meaning hashed es k v i e
-
-      -- a key that was put is held with its number, whatever the table
-      pub lookup_put : (k : K) (v : ℕ) → is_some (slot meaning hashed es (meaning k)) ≡ true → lookup meaning hashed (put es (slot meaning hashed es (meaning k)) k v) (meaning k) ≡ Some v
-      lookup_put k v = put_at k v (slot meaning hashed es (meaning k)) refl
-
-      holder_in : (m : List ℕ) (n i : ℕ) (x : Entry K) → i < length es → get_or es i Free ≡ x → stops meaning m x ≡ true → number_in x ≡ Some n → Holder meaning es m n
-      holder_in m n i Free b e s h = let z : ◌≡◌ {A = ℕ} 0 1 = cc in absurd (omega arith)
-      holder_in m n i (Held k v) b e s h = record {
-        index = i;
-        key = k;
-        below = b;
-        held = (let p : v ≡ n = cc in e ∙ ap (Held k) p);
-        means = alike_true (meaning k) m s;
-      }
-
-      holder_at : (m : List ℕ) (n : ℕ) (o : Option ℕ) → slot meaning hashed es m ≡ o → number_at es o ≡ Some n → Holder meaning es m n
-      holder_at m n None e h = let z : ◌≡◌ {A = ℕ} 0 1 = cc in absurd (omega arith)
-      holder_at m n (Some i) e h = holder_in m n i (get_or es i Free) (slot_below meaning hashed es m i e) refl (slot_stops meaning hashed es m i e) h
-
-      -- a number that is found is held by an entry
-      pub lookup_holder : (m : List ℕ) (n : ℕ) → lookup meaning hashed es m ≡ Some n → Holder meaning es m n
-      lookup_holder m n = holder_at m n (slot meaning hashed es m) refl
-
-      -- a number that an entry of a sound table holds is found
-      pub holder_lookup : Sound meaning hashed es → (i : ℕ) (k : K) (n : ℕ) → get_or es i Free ≡ Held k n → lookup meaning hashed es (meaning k) ≡ Some n
-      holder_lookup sound i k n e = ap (number_at es) (sound.own i k n e) ∙ ap number_in e
-
-      slot_at : (m : List ℕ) (n : ℕ) (o : Option ℕ) → number_at es o ≡ Some n → is_some o ≡ true
-      slot_at m n None h = let z : ◌≡◌ {A = ℕ} 0 1 = cc in absurd (omega arith)
-      slot_at m n (Some i) h = refl
-
-      -- the search for a held key ends at an entry, in a full table too
-      pub lookup_slot : (m : List ℕ) (n : ℕ) → lookup meaning hashed es m ≡ Some n → is_some (slot meaning hashed es m) ≡ true
-      lookup_slot m n = slot_at m n (slot meaning hashed es m)
-
-      -- a sound table holds a key once
-      pub held_once : Sound meaning hashed es → (i j : ℕ) (k l : K) (v w : ℕ) → get_or es i Free ≡ Held k v → get_or es j Free ≡ Held l w → meaning k ≡ meaning l → i ≡ j
-      held_once sound i j k l v w e f g =
-          let p : slot meaning hashed es (meaning k) ≡ Some i = sound.own i k v e in
-          let q : slot meaning hashed es (meaning l) ≡ Some j = sound.own j l w f in
-          cc
+    pub lookup_cleared : (n : ℕ) (m : List ℕ) → lookup meaning hashed (replicate n None) m ≡ None
+    lookup_cleared n m = cleared_at n (slot meaning hashed (replicate n None) m)

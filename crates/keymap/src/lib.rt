@@ -5,4 +5,4 @@ mod map;
 mod table;
 
 pub use map::KeyMap;
-pub use table::{Entry, Full, Key, clear_all, number_of, store};
+pub use table::{Entry, Full, Key};
