@@ -1,5 +1,5 @@
 pub mod Below
 pub mod Numbers
 pub mod Rows
-pub mod Writes
+pub mod Corners
 pub mod Patterns

@@ -1,7 +1,9 @@
 -- The flags of a cell's corners say all that its triangles and crossed edges depend on. Assumes nothing.
-use Rattle.std.proofs.Common.{◌≡◌, ℕ, suc, ◌+◌, ◌/◌, ◌%◌, ◌<◌, ◌≤◌, Bool, true, false, cond, ◌&&◌, eqb, leb, List, [], ◌∷◌, ◌++◌, map, length, get_or, take, filter, sym, refl, ap, ◌∙◌, append-nil, add_assoc, arith}
+use Rattle.std.proofs.Common.{◌≡◌, ℕ, suc, ◌+◌, ◌/◌, ◌%◌, ◌<◌, ◌≤◌, Bool, true, false, cond, not, ◌&&◌, eqb, leb, List, [], ◌∷◌, ◌++◌, map, length, get_or, take, filter, sym, refl, ap, ◌∙◌, append-nil, add_assoc, arith}
+use mathlib.Core.Bool.{beq}
 use Rattle.std.proofs.lemmas.List.Elements.{filter_more}
-use Rattle.std.proofs.lemmas.List.{map_push, get_or-map}
+use Rattle.std.proofs.lemmas.List.{map_push, get_or-map, take_more, flat_map_more}
+use Rattle.std.specs.List.{flat_map}
 use Rattle.std.proofs.lemmas.Bool.{eqb-true, leb-true, and_parts}
 use Rattle.grid.specs.declared.geometry.Point.{Point}
 use Rattle.grid.specs.Points.{◌⊕◌, offset, top, differ, crossed}
@@ -12,6 +14,13 @@ use Rattle.grid.proofs.Below.{below, below_at}
 pub six_at : (t : ℕ) → t < 6 → get_or six t 0 ≡ t
 six_at t h = eqb-true (get_or six t 0) t (below_at (λ k. eqb (get_or six k 0) k) 6 refl t h)
 
+-- the triangles of a cell, one tetrahedron further
+pub tet_more : (flags : List Bool) (B : Point) (t : ℕ) → t < 6 → flat_map (flag_tet flags B) (take (t + 1) six) ≡ flat_map (flag_tet flags B) (take t six) ++ flag_tet flags B t
+tet_more flags B t h =
+    ap (flat_map (flag_tet flags B)) (take_more six t 0 h)
+    ∙ sym (flat_map_more (flag_tet flags B) [] (take t six) (get_or six t 0))
+    ∙ ap (λ (n : ℕ). flat_map (flag_tet flags B) (take t six) ++ flag_tet flags B n) (six_at t h)
+
 -- what a filter keeps, one element further
 module _ {X Y : Type 0} (p : X → Bool) (g : X → Y) (xs : List X) (i : ℕ) (d : X) (b : i < length xs) where
   pub kept_yes : p (get_or xs i d) ≡ true → map g (filter p (take (i + 1) xs)) ≡ map g (filter p (take i xs)) ++ g (get_or xs i d) ∷ []
@@ -19,6 +28,13 @@ module _ {X Y : Type 0} (p : X → Bool) (g : X → Y) (xs : List X) (i : ℕ) (
 
   pub kept_no : p (get_or xs i d) ≡ false → map g (filter p (take (i + 1) xs)) ≡ map g (filter p (take i xs))
   kept_no t = ap (map g) (filter_more p xs i d b ∙ ap (λ (q : Bool). filter p (take i xs) ++ cond q (get_or xs i d ∷ []) []) t ∙ append-nil (filter p (take i xs)))
+
+-- two flags differ where they are not equal
+pub differ_is : (a b : Bool) → differ a b ≡ not (beq a b)
+differ_is true true = refl
+differ_is true false = refl
+differ_is false true = refl
+differ_is false false = refl
 
 -- an edge of a cell stays in the cell
 staying : below (λ i. leb ((get_or spans i no_span).corner + (get_or spans i no_span).direction) 7) 19 ≡ true

@@ -32,6 +32,10 @@ no_case = tri E01 E01 E01
 unfoldable pub swap : {E : Type 0} → Triangle E → Triangle E
 swap τ = record { a = τ.a; b = τ.c; c = τ.b }
 
+-- a triangle of the table as it runs round in an odd or an even tetrahedron
+abbrev pub turned : Bool → Triangle TetEdge → Triangle TetEdge
+turned odd τ = cond odd (swap τ) τ
+
 -- the rows of the masks 0 to 15: a row names exactly the edges between an inside and an outside corner, and the row of 15 - w is that
 -- of w, each triangle running round the other way
 unfoldable pub rows : List (List (Triangle TetEdge))

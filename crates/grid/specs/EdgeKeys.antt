@@ -17,9 +17,9 @@ edge_hash (x ∷ y ∷ z ∷ []) = 0
 edge_hash (x ∷ y ∷ z ∷ d ∷ more) = 8 * (x + 256 * y + 65536 * z) + d
 
 -- the number of the vertex on an edge, if the table holds one
-unfoldable pub vertex_on : List (Entry GridEdge) → GridEdge → Option ℕ
+unfoldable pub vertex_on : List (Option (Entry GridEdge)) → GridEdge → Option ℕ
 vertex_on es e = lookup-in edge_meaning edge_hash es (edge_meaning e)
 
 -- the table once it holds the number n for an edge
-unfoldable pub with_vertex : List (Entry GridEdge) → GridEdge → ℕ → List (Entry GridEdge)
+unfoldable pub with_vertex : List (Option (Entry GridEdge)) → GridEdge → ℕ → List (Option (Entry GridEdge))
 with_vertex es e n = put es (slot-in edge_meaning edge_hash es (edge_meaning e)) e n

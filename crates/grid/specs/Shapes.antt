@@ -2,6 +2,7 @@
 use Rattle.std.specs.Prelude.{◌≡◌, ℕ, ◌<◌, ◌≤◌, Bool, cond, ◌&&◌, Some, None, Option, ◌==◌, nat_le}
 use Rattle.refusal.specs.declared.refusals.Refusal.{Refusal}
 use Rattle.refusal.specs.declared.refusals.Refusal.TheVariants.{Side, OtherShape}
+use Rattle.refusal.specs.declared.refusals.Axis.TheVariants.{X, Y, Z}
 use Rattle.grid.specs.declared.shapes.Shape.{Shape}
 use Rattle.grid.specs.declared.cells.Cell.{Cell}
 use Rattle.grid.specs.declared.geometry.Point.{Point}
@@ -20,11 +21,11 @@ lawful n = nat_le 1 n && nat_le n 254
 
 -- why three numbers are refused as sides: the lowest axis whose side is not 1 to 254
 abbrev pub sides_refusal : Sides → Option Refusal
-sides_refusal s = cond (lawful s.nx) (cond (lawful s.ny) (cond (lawful s.nz) None (Some (Side 2))) (Some (Side 1))) (Some (Side 0))
+sides_refusal s = cond (lawful s.nx) (cond (lawful s.ny) (cond (lawful s.nz) None (Some (Side Z))) (Some (Side Y))) (Some (Side X))
 
 -- why a volume with sides t is refused by a surface with sides s: the lowest axis on which they differ
 abbrev pub shapes_refusal : Sides → Sides → Option Refusal
-shapes_refusal s t = cond (s.nx == t.nx) (cond (s.ny == t.ny) (cond (s.nz == t.nz) None (Some (OtherShape 2))) (Some (OtherShape 1))) (Some (OtherShape 0))
+shapes_refusal s t = cond (s.nx == t.nx) (cond (s.ny == t.ny) (cond (s.nz == t.nz) None (Some (OtherShape Z))) (Some (OtherShape Y))) (Some (OtherShape X))
 
 -- the cell of the number n: its base has that number; or there is none
 abbrev pub CellAt : Sides → ℕ → Option Cell → Type 0

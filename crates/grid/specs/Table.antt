@@ -3,26 +3,25 @@ use Rattle.std.specs.Prelude.{ℕ, List, [], ◌∷◌, slice_index_or}
 use Rattle.grid.specs.declared.geometry.Triangle.{Triangle}
 use Rattle.grid.specs.declared.geometry.TetEdge.{TetEdge}
 use Rattle.grid.specs.declared.geometry.TetEdge.TheVariants.{E01, E02, E03, E12, E13, E23}
-use Rattle.grid.specs.declared.marching.Row.{Row}
 use Rattle.grid.specs.Cases.{tri, no_case}
 
 -- a row's triangles, filled up to two
-unfoldable pub filled : List (Triangle TetEdge) → Row
-filled [] = record { first = no_case; second = no_case }
-filled (t ∷ []) = record { first = t; second = no_case }
-filled (t ∷ u ∷ more) = record { first = t; second = u }
+unfoldable pub filled : List (Triangle TetEdge) → List (Triangle TetEdge)
+filled [] = no_case ∷ no_case ∷ []
+filled (t ∷ []) = t ∷ no_case ∷ []
+filled (t ∷ u ∷ more) = t ∷ u ∷ []
 
-abbrev none : Row
-none = record { first = no_case; second = no_case }
+abbrev none : List (Triangle TetEdge)
+none = no_case ∷ no_case ∷ []
 
-abbrev one : Triangle TetEdge → Row
-one t = record { first = t; second = no_case }
+abbrev one : Triangle TetEdge → List (Triangle TetEdge)
+one t = t ∷ no_case ∷ []
 
-abbrev two : Triangle TetEdge → Triangle TetEdge → Row
-two t u = record { first = t; second = u }
+abbrev two : Triangle TetEdge → Triangle TetEdge → List (Triangle TetEdge)
+two t u = t ∷ u ∷ []
 
 -- the sixteen rows, written out
-abbrev pub table : List Row
+abbrev pub table : List (List (Triangle TetEdge))
 table =
     none
     ∷ one (tri E01 E02 E03)
@@ -43,5 +42,5 @@ table =
     ∷ []
 
 -- the row of a mask
-abbrev pub table_row : ℕ → Row
+abbrev pub table_row : ℕ → List (Triangle TetEdge)
 table_row mask = slice_index_or table mask none

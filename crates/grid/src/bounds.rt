@@ -1,31 +1,29 @@
 ghost use Rattle.std.specs.Prelude.{◌≡◌, ℕ, ◌+◌, ◌*◌, ◌<◌, ◌≤◌, Bool, true, false, cond, Some, None, MatchOption, MatchResult};
 ghost use Rattle.grid.specs.Points.{sampled, on_border};
 ghost use Rattle.grid.specs.Cells.{cell_count, cell_number, cell_base};
-ghost use Rattle.grid.specs.Shapes.{sides, triple, sides_refusal, shapes_refusal, CellAt};
+ghost use Rattle.grid.specs.Shapes.{sides, triple, sides_refusal, shapes_refusal, lawful, CellAt};
 
 use crate::cells::Cell;
 use crate::geometry::Point;
 use crate::shapes::Shape;
-use refusal::Refusal;
+use refusal::{Axis, Refusal};
+
+// The side of a length, which a shape has where it is 1 to 254.
+fn side(n: u64) -> Option<u8>
+    ensures { MatchOption result (lawful n ≡ false) (λ side. (lawful n ≡ true) × (side ≡ n)) }
+{
+    u8::try_from(n).ok().filter(|side| (1..=254).contains(side))
+}
 
 impl Shape {
     // The shape of three sides, which may be numbers of any size.
     pub fn new(nx: u64, ny: u64, nz: u64) -> Result<Shape, Refusal>
         ensures { MatchResult result (λ s. (sides_refusal (triple nx ny nz) ≡ None) × (sides s ≡ triple nx ny nz)) (λ e. sides_refusal (triple nx ny nz) ≡ Some e) }
     {
-        if nx < 1 || nx > 254 {
-            return Err(Refusal::Side(0));
-        }
-        if ny < 1 || ny > 254 {
-            return Err(Refusal::Side(1));
-        }
-        if nz < 1 || nz > 254 {
-            return Err(Refusal::Side(2));
-        }
         Ok(Shape {
-            nx: nx as u8,
-            ny: ny as u8,
-            nz: nz as u8,
+            nx: side(nx).ok_or(Refusal::Side(Axis::X))?,
+            ny: side(ny).ok_or(Refusal::Side(Axis::Y))?,
+            nz: side(nz).ok_or(Refusal::Side(Axis::Z))?,
         })
     }
 
@@ -33,14 +31,14 @@ impl Shape {
     pub fn is_sampled(self, p: Point) -> bool
         ensures { result ≡ sampled (sides self) p }
     {
-        1 <= p.x && p.x <= self.nx && (1 <= p.y && p.y <= self.ny) && (1 <= p.z && p.z <= self.nz)
+        (1..=self.nx).contains(&p.x) && (1..=self.ny).contains(&p.y) && (1..=self.nz).contains(&p.z)
     }
 
     // How many cells the grid has.
     pub fn cell_count(self) -> u32
         ensures { result ≡ cell_count (sides self) }
     {
-        (self.nx as u32 + 1) * ((self.ny as u32 + 1) * (self.nz as u32 + 1))
+        (u32::from(self.nx) + 1) * ((u32::from(self.ny) + 1) * (u32::from(self.nz) + 1))
     }
 
     // The cell of a number, where there is one.
@@ -50,8 +48,8 @@ impl Shape {
         if number >= self.cell_count() {
             return None;
         }
-        let row = self.nx as u32 + 1;
-        let column = self.ny as u32 + 1;
+        let row = u32::from(self.nx) + 1;
+        let column = u32::from(self.ny) + 1;
         let x = number % row;
         let y = number / row % column;
         let z = number / row / column;
@@ -64,18 +62,19 @@ impl Shape {
         })
     }
 
-    // Why a volume of another shape is refused, if it is of another.
-    pub fn refuses(self, other: Shape) -> Option<Refusal>
-        ensures { result ≡ shapes_refusal (sides self) (sides other) }
+    // Whether another shape is the same, or the lowest axis on which they differ.
+    pub fn check_same(self, other: Shape) -> Result<(), Refusal>
+        ensures { MatchResult result (λ _. shapes_refusal (sides self) (sides other) ≡ None) (λ e. shapes_refusal (sides self) (sides other) ≡ Some e) }
     {
         if self.nx != other.nx {
-            Some(Refusal::OtherShape(0))
-        } else if self.ny != other.ny {
-            Some(Refusal::OtherShape(1))
-        } else if self.nz != other.nz {
-            Some(Refusal::OtherShape(2))
-        } else {
-            None
+            return Err(Refusal::OtherShape(Axis::X));
         }
+        if self.ny != other.ny {
+            return Err(Refusal::OtherShape(Axis::Y));
+        }
+        if self.nz != other.nz {
+            return Err(Refusal::OtherShape(Axis::Z));
+        }
+        Ok(())
     }
 }

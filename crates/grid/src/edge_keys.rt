@@ -1,3 +1,4 @@
+ghost use Rattle.std.proofs.Common.{rules};
 ghost use Rattle.grid.specs.EdgeKeys.{edge_meaning, edge_hash};
 
 use crate::geometry::GridEdge;
@@ -8,14 +9,9 @@ impl Key for GridEdge {
 
     ghost hashed = { edge_hash };
 
-    fn same(&self, other: &GridEdge) -> bool {
-        self.low.x == other.low.x
-            && self.low.y == other.low.y
-            && self.low.z == other.low.z
-            && self.direction == other.direction
-    }
-
     fn hash(&self) -> u32 {
         self.key()
     }
+
+    ghost equal = { Prim.search rules };
 }

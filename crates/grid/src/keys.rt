@@ -1,5 +1,5 @@
 ghost use Rattle.std.specs.Prelude.{◌≡◌, ℕ, ◌+◌, ◌*◌, ◌<◌, ◌≤◌, IfSome, Some, None};
-ghost use Rattle.grid.specs.Points.{point_number, on_border, edge_key, edge_of, TopAnswer, Keyed, KeysDiffer};
+ghost use Rattle.grid.specs.Points.{point_number, at_end as side_end, on_border, edge_key, edge_of, TopAnswer, Keyed, KeysDiffer};
 ghost use Rattle.grid.specs.Shapes.{sides, NumberOf};
 ghost use Rattle.grid.specs.GridTriangles.{TriangleAnswer};
 
@@ -28,18 +28,11 @@ impl GridEdge {
     pub fn top(self) -> Option<Point>
         ensures { TopAnswer self result }
     {
-        let x = self.low.x as u16 + (self.direction % 2) as u16;
-        let y = self.low.y as u16 + (self.direction / 2 % 2) as u16;
-        let z = self.low.z as u16 + (self.direction / 4 % 2) as u16;
-        if x < 256 && y < 256 && z < 256 {
-            Some(Point {
-                x: x as u8,
-                y: y as u8,
-                z: z as u8,
-            })
-        } else {
-            None
-        }
+        Some(Point {
+            x: self.low.x.checked_add(self.direction % 2)?,
+            y: self.low.y.checked_add(self.direction / 2 % 2)?,
+            z: self.low.z.checked_add(self.direction / 4 % 2)?,
+        })
     }
 
     // The edge of a key, where a number is one.
@@ -50,17 +43,20 @@ impl GridEdge {
         if key >= 134_217_728 || key % 8 == 0 {
             return None;
         }
-        let number = key / 8;
-        let low = Point {
-            x: (number % 256) as u8,
-            y: (number / 256 % 256) as u8,
-            z: (number / 65_536 % 256) as u8,
-        };
+        let [x, y, z, _] = (key / 8).to_le_bytes();
         Some(GridEdge {
-            low,
+            low: Point { x, y, z },
             direction: (key % 8) as u8,
         })
     }
+}
+
+// Whether a coordinate is 0 or the side plus 1.
+fn at_end(side: u8, c: u8) -> bool
+    requires { side ≤ 254 }
+    ensures { result ≡ side_end side c }
+{
+    c == 0 || c == side + 1
 }
 
 impl Shape {
@@ -68,11 +64,8 @@ impl Shape {
     pub fn on_border(self, p: Point) -> bool
         ensures { result ≡ on_border (sides self) p }
     {
-        let inside = p.x <= self.nx + 1 && (p.y <= self.ny + 1 && p.z <= self.nz + 1);
-        let x = p.x == 0 || p.x == self.nx + 1;
-        let y = p.y == 0 || p.y == self.ny + 1;
-        let z = p.z == 0 || p.z == self.nz + 1;
-        inside && (x || y || z)
+        let within = p.x <= self.nx + 1 && p.y <= self.ny + 1 && p.z <= self.nz + 1;
+        within && (at_end(self.nx, p.x) || at_end(self.ny, p.y) || at_end(self.nz, p.z))
     }
 
     // The number of the cell at a base, where there is one.
@@ -93,10 +86,7 @@ impl GridTriangle {
     pub fn new(low: Point, a: u8, b: u8) -> Option<GridTriangle>
         ensures { TriangleAnswer low a b result }
     {
-        if b < 8 && a & b == a && a != 0 && a != b {
-            Some(GridTriangle { low, a, b })
-        } else {
-            None
-        }
+        let part = b < 8 && a & b == a && a != 0 && a != b;
+        part.then_some(GridTriangle { low, a, b })
     }
 }

@@ -10,6 +10,5 @@ mod shapes;
 
 pub use cells::Cell;
 pub use geometry::{GridEdge, GridTriangle, Point, Span, TetEdge, Triangle};
-pub use marching::{CellEdges, CellTriangles};
-pub use refusal::{Code, Refusal};
+pub use refusal::{Axis, Code, Refusal};
 pub use shapes::Shape;

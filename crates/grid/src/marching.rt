@@ -1,272 +1,105 @@
-ghost use Rattle.std.specs.Prelude.{◌≡◌, ℕ, ◌+◌, ◌*◌, ◌<◌, ◌≤◌, Bool, true, false, List, [], map, length, take, slice_index_or};
-ghost use Rattle.std.proofs.lemmas.List.Edits.{sets};
+ghost use Rattle.std.specs.Prelude.{◌≡◌, ℕ, ◌+◌, ◌*◌, ◌<◌, ◌≤◌, Bool, List, [], ◌++◌, map, length, slice_index_or};
+ghost use Rattle.arrayvec.specs.ArrayVec.{array_vec_len};
 ghost use Rattle.grid.specs.Points.{◌⊕◌, offset};
-ghost use Rattle.grid.specs.Cells.{corner as corner-code, odd as odd-tet, edge, placed};
-ghost use Rattle.grid.specs.Cases.{low_position, high_position, rows, row, no_case};
+ghost use Rattle.grid.specs.Cells.{edge, odd as odd-tet, placed};
+ghost use Rattle.grid.specs.Cases.{low_position, high_position, rows, turned};
 ghost use Rattle.grid.specs.Table.{table_row};
-ghost use Rattle.grid.specs.Patterns.{flag_mask, flag_triangles, flag_edges, spans, no_span, span_crossed};
+ghost use Rattle.grid.specs.Patterns.{flag_mask, flag_tet, flag_triangles, flag_edges};
 
-use crate::cells::Cell;
+use crate::cells::{Cell, Mask, Tetrahedron};
 use crate::geometry::TetEdge::{E01, E02, E03, E12, E13, E23};
 use crate::geometry::{GridEdge, Point, Span, TetEdge, Triangle};
+use arrayvec::ArrayVec;
 
-// The corner codes of the six tetrahedra at their positions 0 to 3, and whether each is odd.
-const TETRAHEDRA: [[u8; 4]; 6] = [
-    [0, 1, 3, 7],
-    [0, 1, 5, 7],
-    [0, 2, 3, 7],
-    [0, 2, 6, 7],
-    [0, 4, 5, 7],
-    [0, 4, 6, 7],
+// A kind of tetrahedron: the corner codes at its positions 0 to 3, and whether it is odd.
+#[derive(Clone, Copy)]
+struct Kind {
+    corners: [u8; 4],
+    odd: bool,
+}
+
+// The kinds of the six tetrahedra.
+const KINDS: &[Kind; 6] = &[
+    Kind {
+        corners: [0, 1, 3, 7],
+        odd: false,
+    },
+    Kind {
+        corners: [0, 1, 5, 7],
+        odd: true,
+    },
+    Kind {
+        corners: [0, 2, 3, 7],
+        odd: true,
+    },
+    Kind {
+        corners: [0, 2, 6, 7],
+        odd: false,
+    },
+    Kind {
+        corners: [0, 4, 5, 7],
+        odd: false,
+    },
+    Kind {
+        corners: [0, 4, 6, 7],
+        odd: true,
+    },
 ];
 
-const ODD: [bool; 6] = [false, true, true, false, false, true];
-
-const NO_CASE: Triangle<TetEdge> = Triangle {
-    a: E01,
-    b: E01,
-    c: E01,
-};
-
 // A row of the case table: its triangles, filled up to two. The number of inside corners says how many count.
-#[derive(Clone, Copy)]
-pub struct Row {
-    first: Triangle<TetEdge>,
-    second: Triangle<TetEdge>,
+type Row = [Triangle<TetEdge>; 2];
+
+// A row with no triangle, one or two.
+macro_rules! row {
+    () => {
+        row!(E01 E01 E01, E01 E01 E01)
+    };
+    ($a:ident $b:ident $c:ident) => {
+        row!($a $b $c, E01 E01 E01)
+    };
+    ($a:ident $b:ident $c:ident, $p:ident $q:ident $r:ident) => {
+        [Triangle { a: $a, b: $b, c: $c }, Triangle { a: $p, b: $q, c: $r }]
+    };
 }
 
 // The case table: the triangles of a tetrahedron for each mask of its inside corners.
-const ROWS: [Row; 16] = [
-    Row {
-        first: NO_CASE,
-        second: NO_CASE,
-    },
-    Row {
-        first: Triangle {
-            a: E01,
-            b: E02,
-            c: E03,
-        },
-        second: NO_CASE,
-    },
-    Row {
-        first: Triangle {
-            a: E01,
-            b: E13,
-            c: E12,
-        },
-        second: NO_CASE,
-    },
-    Row {
-        first: Triangle {
-            a: E02,
-            b: E03,
-            c: E13,
-        },
-        second: Triangle {
-            a: E02,
-            b: E13,
-            c: E12,
-        },
-    },
-    Row {
-        first: Triangle {
-            a: E02,
-            b: E12,
-            c: E23,
-        },
-        second: NO_CASE,
-    },
-    Row {
-        first: Triangle {
-            a: E03,
-            b: E01,
-            c: E12,
-        },
-        second: Triangle {
-            a: E03,
-            b: E12,
-            c: E23,
-        },
-    },
-    Row {
-        first: Triangle {
-            a: E01,
-            b: E23,
-            c: E02,
-        },
-        second: Triangle {
-            a: E01,
-            b: E13,
-            c: E23,
-        },
-    },
-    Row {
-        first: Triangle {
-            a: E03,
-            b: E13,
-            c: E23,
-        },
-        second: NO_CASE,
-    },
-    Row {
-        first: Triangle {
-            a: E03,
-            b: E23,
-            c: E13,
-        },
-        second: NO_CASE,
-    },
-    Row {
-        first: Triangle {
-            a: E01,
-            b: E02,
-            c: E23,
-        },
-        second: Triangle {
-            a: E01,
-            b: E23,
-            c: E13,
-        },
-    },
-    Row {
-        first: Triangle {
-            a: E03,
-            b: E12,
-            c: E01,
-        },
-        second: Triangle {
-            a: E03,
-            b: E23,
-            c: E12,
-        },
-    },
-    Row {
-        first: Triangle {
-            a: E02,
-            b: E23,
-            c: E12,
-        },
-        second: NO_CASE,
-    },
-    Row {
-        first: Triangle {
-            a: E02,
-            b: E13,
-            c: E03,
-        },
-        second: Triangle {
-            a: E02,
-            b: E12,
-            c: E13,
-        },
-    },
-    Row {
-        first: Triangle {
-            a: E01,
-            b: E12,
-            c: E13,
-        },
-        second: NO_CASE,
-    },
-    Row {
-        first: Triangle {
-            a: E01,
-            b: E03,
-            c: E02,
-        },
-        second: NO_CASE,
-    },
-    Row {
-        first: NO_CASE,
-        second: NO_CASE,
-    },
+const ROWS: &[Row; 16] = &[
+    row!(),
+    row!(E01 E02 E03),
+    row!(E01 E13 E12),
+    row!(E02 E03 E13, E02 E13 E12),
+    row!(E02 E12 E23),
+    row!(E03 E01 E12, E03 E12 E23),
+    row!(E01 E23 E02, E01 E13 E23),
+    row!(E03 E13 E23),
+    row!(E03 E23 E13),
+    row!(E01 E02 E23, E01 E23 E13),
+    row!(E03 E12 E01, E03 E23 E12),
+    row!(E02 E23 E12),
+    row!(E02 E13 E03, E02 E12 E13),
+    row!(E01 E12 E13),
+    row!(E01 E03 E02),
+    row!(),
 ];
 
-const NOWHERE: Point = Point { x: 0, y: 0, z: 0 };
-
-const NO_EDGE: GridEdge = GridEdge {
-    low: NOWHERE,
-    direction: 0,
-};
-
-const NO_TRIANGLE: Triangle<GridEdge> = Triangle {
-    a: NO_EDGE,
-    b: NO_EDGE,
-    c: NO_EDGE,
-};
-
-// The triangles of a cell, by the grid edges that carry their corners: the first `count` of `items`.
-#[derive(Clone, Copy)]
-pub struct CellTriangles {
-    pub items: [Triangle<GridEdge>; 12],
-    pub count: usize,
-}
-
-// The mask of a tetrahedron: bit m is set where the corner at position m is inside.
-fn tet_mask(inside: &[bool; 8], t: usize) -> u8
-    requires { t < 6 }
-    ensures mask { result ≡ flag_mask inside.now t }
-    ensures small { result < 16 }
-{
-    let tet = TETRAHEDRA[t];
-    let a = inside[tet[0] as usize] as u8;
-    let b = inside[tet[1] as usize] as u8;
-    let c = inside[tet[2] as usize] as u8;
-    let d = inside[tet[3] as usize] as u8;
-    a + 2 * b + 4 * c + 8 * d
-}
-
-// How many triangles a tetrahedron has: the count of ones in its mask is the number of its inside corners.
-fn triangles_in(mask: u8) -> usize
-    requires { mask < 16 }
-    ensures value { result ≡ length (slice_index_or rows mask []) }
-    ensures few { result ≤ 2 }
-{
-    match mask.count_ones() {
-        1 | 3 => 1,
-        2 => 2,
-        _ => 0,
-    }
-}
-
-// The row of a mask.
-fn row_for(mask: u8) -> Row
-    requires { mask < 16 }
-    ensures { result ≡ table_row mask }
-{
-    ROWS[mask as usize]
-}
-
-// The triangle i of the row of a mask; in an odd tetrahedron the second and third corner change places.
-fn case_triangle(odd: bool, mask: u8, i: usize) -> Triangle<TetEdge>
-    requires mask { mask < 16 }
-    requires one { i < length (slice_index_or rows mask []) }
-    ensures { result ≡ slice_index_or (row odd mask) i no_case }
-{
-    let row = row_for(mask);
-    let case = if i == 0 { row.first } else { row.second };
-    if odd {
-        Triangle {
-            a: case.a,
-            b: case.c,
-            c: case.b,
-        }
-    } else {
-        case
-    }
-}
-
-impl Cell {
-    // The corner of a code, whose bits 0, 1 and 2 add 1 to x, y and z.
-    pub fn corner(self, code: u8) -> Point
-        ensures { result ≡ self.base ⊕ offset code }
+impl Mask {
+    // How many triangles a tetrahedron has: the count of ones in its mask is the number of its inside corners.
+    fn triangle_count(self) -> usize
+        ensures value { result ≡ length (slice_index_or rows self.bits []) }
+        ensures few { result ≤ 2 }
     {
-        Point {
-            x: self.base.x + code % 2,
-            y: self.base.y + code / 2 % 2,
-            z: self.base.z + code / 4 % 2,
+        match self.bits.count_ones() {
+            1 | 3 => 1,
+            2 => 2,
+            _ => 0,
         }
+    }
+
+    // Its row of the case table.
+    fn row(self) -> &'static Row
+        ensures { result.now ≡ table_row self.bits }
+    {
+        &ROWS[usize::from(self.bits)]
     }
 }
 
@@ -289,190 +122,119 @@ impl TetEdge {
     }
 }
 
-// The grid edge between two corners of a tetrahedron of a cell.
-fn edge_at(cell: Cell, t: usize, mn: TetEdge) -> GridEdge
-    requires { t < 6 }
-    ensures { result ≡ edge cell.base t mn }
-{
-    let (m, n) = mn.positions();
-    let low = TETRAHEDRA[t][m];
-    let high = TETRAHEDRA[t][n];
-    GridEdge {
-        low: cell.corner(low),
-        direction: high - low,
-    }
-}
-
-// The triangle of a case in a tetrahedron of a cell.
-fn place(cell: Cell, t: usize, case: Triangle<TetEdge>) -> Triangle<GridEdge>
-    requires { t < 6 }
-    ensures { result ≡ placed cell.base t case }
-{
-    Triangle {
-        a: edge_at(cell, t, case.a),
-        b: edge_at(cell, t, case.b),
-        c: edge_at(cell, t, case.c),
-    }
-}
-
-// Writes the triangles of a tetrahedron from `at` on, and says where they end.
-fn emit(items: &mut [Triangle<GridEdge>], at: usize, cell: Cell, t: usize, mask: u8) -> usize
-    requires tet { t < 6 }
-    requires mask { mask < 16 }
-    requires room { at + 2 ≤ length items.old }
-    ensures items { items.new ≡ sets items.old at (map (placed cell.base t) (row (odd-tet t) mask)) }
-    ensures end { result ≡ at + length (row (odd-tet t) mask) }
-    ensures few { result ≤ at + 2 }
-{
-    let mut n = at;
-    for i in 0..triangles_in(mask) {
-        items[n] = place(cell, t, case_triangle(ODD[t], mask, i));
-        n += 1;
-    }
-    n
-}
-
-impl Cell {
-    // The triangles of the cell where these of its corners are inside, tetrahedron by tetrahedron.
-    pub fn triangles(self, inside: &[bool; 8]) -> CellTriangles
-        ensures value { take result.count result.items ≡ flag_triangles inside.now self.base }
-        ensures count { result.count ≡ length (flag_triangles inside.now self.base) }
-        ensures few { result.count ≤ 12 }
+impl Tetrahedron {
+    // Its mask, where these corners of the cell are inside.
+    fn mask(self, inside: &[bool; 8]) -> Mask
+        ensures { result.bits ≡ flag_mask inside.now self.number }
     {
-        let mut items = [NO_TRIANGLE; 12];
-        let mut count = 0;
-        for t in 0..6 {
-            count = emit(&mut items, count, self, t, tet_mask(inside, t));
+        let [a, b, c, d] = KINDS[self.number].corners;
+        let a = u8::from(inside[usize::from(a)]);
+        let b = u8::from(inside[usize::from(b)]);
+        let c = u8::from(inside[usize::from(c)]);
+        let d = u8::from(inside[usize::from(d)]);
+        Mask {
+            bits: a + 2 * b + 4 * c + 8 * d,
         }
-        CellTriangles { items, count }
     }
+
+    // The grid edge between two of its corners.
+    fn edge(self, mn: TetEdge) -> GridEdge
+        ensures { result ≡ edge self.cell.base self.number mn }
+    {
+        let (m, n) = mn.positions();
+        let low = KINDS[self.number].corners[m];
+        let high = KINDS[self.number].corners[n];
+        GridEdge {
+            low: self.cell.corner(low),
+            direction: high - low,
+        }
+    }
+
+    // The triangle of a case; in an odd tetrahedron it runs round the other way.
+    fn place(self, case: Triangle<TetEdge>) -> Triangle<GridEdge>
+        ensures { result ≡ placed self.cell.base self.number (turned (odd-tet self.number) case) }
+    {
+        let case = if KINDS[self.number].odd {
+            case.reversed()
+        } else {
+            case
+        };
+        Triangle {
+            a: self.edge(case.a),
+            b: self.edge(case.b),
+            c: self.edge(case.c),
+        }
+    }
+
+    // Adds its triangles, where these corners of the cell are inside.
+    fn add_triangles(self, inside: &[bool; 8], found: &mut ArrayVec<Triangle<GridEdge>, 12>)
+        requires { array_vec_len found.old + 2 ≤ 12 }
+        ensures items { found.new.items ≡ found.old.items ++ flag_tet inside.now self.cell.base self.number }
+        ensures few { array_vec_len found.new ≤ array_vec_len found.old + 2 }
+    {
+        let mask = self.mask(inside);
+        for &case in &mask.row()[..mask.triangle_count()] {
+            found.push(self.place(case));
+        }
+    }
+}
+
+// The spans from corners, each with its directions.
+macro_rules! spans {
+    ($($corner:literal: $($direction:literal)*;)*) => {
+        [$($(Span { corner: $corner, direction: $direction },)*)*]
+    };
 }
 
 // The nineteen edges of a cell: from each corner in each direction that stays in the cell.
-const SPANS: [Span; 19] = [
-    Span {
-        corner: 0,
-        direction: 1,
-    },
-    Span {
-        corner: 0,
-        direction: 2,
-    },
-    Span {
-        corner: 0,
-        direction: 3,
-    },
-    Span {
-        corner: 0,
-        direction: 4,
-    },
-    Span {
-        corner: 0,
-        direction: 5,
-    },
-    Span {
-        corner: 0,
-        direction: 6,
-    },
-    Span {
-        corner: 0,
-        direction: 7,
-    },
-    Span {
-        corner: 1,
-        direction: 2,
-    },
-    Span {
-        corner: 1,
-        direction: 4,
-    },
-    Span {
-        corner: 1,
-        direction: 6,
-    },
-    Span {
-        corner: 2,
-        direction: 1,
-    },
-    Span {
-        corner: 2,
-        direction: 4,
-    },
-    Span {
-        corner: 2,
-        direction: 5,
-    },
-    Span {
-        corner: 3,
-        direction: 4,
-    },
-    Span {
-        corner: 4,
-        direction: 1,
-    },
-    Span {
-        corner: 4,
-        direction: 2,
-    },
-    Span {
-        corner: 4,
-        direction: 3,
-    },
-    Span {
-        corner: 5,
-        direction: 2,
-    },
-    Span {
-        corner: 6,
-        direction: 1,
-    },
+const SPANS: &[Span; 19] = &spans![
+    0: 1 2 3 4 5 6 7;
+    1: 2 4 6;
+    2: 1 4 5;
+    3: 4;
+    4: 1 2 3;
+    5: 2;
+    6: 1;
 ];
 
-// The crossed edges of a cell: the first `count` of `items`.
-#[derive(Clone, Copy)]
-pub struct CellEdges {
-    pub items: [GridEdge; 19],
-    pub count: usize,
-}
-
-// The edge i of a cell.
-fn span_at(i: usize) -> Span
-    requires { i < 19 }
-    ensures value { result ≡ slice_index_or spans i no_span }
-    ensures stays { result.corner + result.direction ≤ 7 }
-{
-    SPANS[i]
-}
-
-// Whether one end of an edge of a cell is inside and the other is not.
-fn is_crossed(inside: &[bool; 8], span: Span) -> bool
-    requires { span.corner + span.direction ≤ 7 }
-    ensures { result ≡ span_crossed inside.now span }
-{
-    let low = inside[span.corner as usize];
-    let high = inside[(span.corner + span.direction) as usize];
-    if low { !high } else { high }
-}
-
 impl Cell {
-    // The edges of the cell that are crossed where these of its corners are inside.
-    pub fn crossed_edges(self, inside: &[bool; 8]) -> CellEdges
-        ensures value { take result.count result.items ≡ flag_edges inside.now self.base }
-        ensures count { result.count ≡ length (flag_edges inside.now self.base) }
-        ensures few { result.count ≤ 19 }
+    // The corner of a code, whose bits 0, 1 and 2 add 1 to x, y and z.
+    pub fn corner(self, code: u8) -> Point
+        ensures { result ≡ self.base ⊕ offset code }
     {
-        let mut items = [NO_EDGE; 19];
-        let mut count = 0;
-        for i in 0..19 {
-            let span = span_at(i);
-            if is_crossed(inside, span) {
-                items[count] = GridEdge {
+        Point {
+            x: self.base.x + code % 2,
+            y: self.base.y + code / 2 % 2,
+            z: self.base.z + code / 4 % 2,
+        }
+    }
+
+    // The triangles of the cell where these of its corners are inside, tetrahedron by tetrahedron.
+    pub fn triangles(self, inside: &[bool; 8]) -> ArrayVec<Triangle<GridEdge>, 12>
+        ensures { result.items ≡ flag_triangles inside.now self.base }
+    {
+        let mut found = ArrayVec::new();
+        for number in 0..6 {
+            Tetrahedron { cell: self, number }.add_triangles(inside, &mut found);
+        }
+        found
+    }
+
+    // The edges of the cell that are crossed where these of its corners are inside.
+    pub fn crossed_edges(self, inside: &[bool; 8]) -> ArrayVec<GridEdge, 19>
+        ensures { result.items ≡ flag_edges inside.now self.base }
+    {
+        let mut crossed = ArrayVec::new();
+        for span in SPANS {
+            let low = inside[usize::from(span.corner)];
+            let high = inside[usize::from(span.corner + span.direction)];
+            if low != high {
+                crossed.push(GridEdge {
                     low: self.corner(span.corner),
                     direction: span.direction,
-                };
-                count += 1;
+                });
             }
         }
-        CellEdges { items, count }
+        crossed
     }
 }

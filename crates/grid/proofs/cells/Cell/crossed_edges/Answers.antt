@@ -1,45 +1,42 @@
-use Rattle.std.proofs.Common.{◌≡◌, ◌<◌, List, [], ◌∷◌, ◌++◌, map, length, get_or, take, filter, sym, ap, ◌∙◌, arith, length-set}
-use Rattle.std.proofs.lemmas.List.{take_all, take_more_set, length-take-le}
+use Rattle.std.proofs.Common.{◌≡◌, ◌<◌, not, List, [], ◌∷◌, ◌++◌, map, get_or, filter, sym, ap, ◌∙◌, arith}
+use mathlib.Core.Bool.{beq}
+use Rattle.std.proofs.lemmas.List.{take_all}
 use Rattle.grid.specs.declared.geometry.Span.{Span}
-use Rattle.grid.specs.Patterns.{spans, no_span, span_crossed, span_edge, flag_edges}
-use Rattle.grid.proofs.Patterns.{kept_yes, kept_no}
-use Rattle.grid.proofs.cells.Cell.crossed_edges.Goals.{then-is_crossed, else-is_crossed}
+use Rattle.grid.specs.Patterns.{spans, no_span, span_crossed, span_edge, flag, flag_edges}
+use Rattle.grid.specs.Points.{differ}
+use Rattle.grid.proofs.Patterns.{kept_yes, kept_no, differ_is}
+use Rattle.grid.proofs.cells.Cell.crossed_edges.Goals.{then-low-high, else-low-high}
 use Rattle.grid.proofs.cells.Cell.crossed_edges.Goals as goal
 
-pub loop-i-preserved : goal.loop-i-preserved
-loop-i-preserved c =
-    let i = c.loop-i.i in
-    let h : i < 19 = c.loop-i-test.true in
-    let B = c.args.self.base in
-    let p = span_crossed c.args.inside.now in
-    let s = c.span_at-span.ensures.value in
-    let inv = c.loop-i.invariant in
-    elim c.if-is_crossed.branch [
-      | then-is_crossed w ↦
-          let e : span_edge B (get_or spans i no_span) ≡ record { low = w.corner.result; direction = c.span_at-span.result.direction } =
-          (λ j. record { low = (ap (λ (q : Span). (span_edge B q).low) (sym s) ∙ sym w.corner.ensures) j; direction = (sym s j).direction }) in
-          rw (w.items-is, w.count-is) (
-            take_more_set c.loop-i.items c.loop-i.count _ (omega arith)
-                ∙ (λ j. inv.0 j ++ (sym e j ∷ []))
-                ∙ sym (kept_yes p (span_edge B) spans i no_span h (ap p (sym s) ∙ sym w.if-is_crossed.ensures)),
-            omega arith,
-            length-set c.loop-i.items c.loop-i.count _ ∙ inv.2,
-          )
-      | else-is_crossed w ↦
-          rw (w.items-is, w.count-is)
-          (inv.0 ∙ sym (kept_no p (span_edge B) spans i no_span h (ap p (sym s) ∙ sym w.if-is_crossed.ensures)), omega arith, inv.2)
+pub loop-span-preserved : goal.loop-span-preserved
+loop-span-preserved c =
+    let i = c.loop-span.span-index in
+    let h : i < 19 = c.loop-span-test.true in
+    let flags = c.args.inside.now in
+    let edge = span_edge c.args.self.base in
+    let s = get_or spans i no_span in
+    let inv = c.loop-span.invariant in
+    let crossed : span_crossed flags s ≡ not (beq (flag flags c.from.result) (flag flags c.from-in-loop-span.result)) =
+    (λ j. differ (flag flags (sym c.from.ensures j)) (flag flags (sym c.from-in-loop-span.ensures j))) ∙ differ_is _ _ in
+    elim c.if-low-high.branch [
+      | then-low-high w ↦
+          let e : edge s ≡ record { low = w.corner.result; direction = s.direction } = (λ j. record { low = sym w.corner.ensures j; direction = s.direction }) in
+          rw w.crossed-is (record {
+            items =
+                w.push.ensures.items
+                ∙ (λ j. inv.items j ++ (sym e j ∷ []))
+                ∙ sym (kept_yes (span_crossed flags) edge spans i no_span h (crossed ∙ w.if-low-high.true));
+            few = omega arith;
+          })
+      | else-low-high w ↦
+          rw w.crossed-is (record {
+            items = inv.items ∙ sym (kept_no (span_crossed flags) edge spans i no_span h (crossed ∙ w.if-low-high.false));
+            few = omega arith;
+          })
     ]
 
 pub returns : goal.returns
 unfolding flag_edges
 returns c =
-    let inv = c.loop-i.invariant in
-    let all = take_all c.loop-i.i spans c.loop-i-test.false in
-    let B = c.args.self.base in
-    let e : take c.loop-i.count c.loop-i.items ≡ map (span_edge B) (filter (span_crossed c.args.inside.now) spans) =
-    inv.0 ∙ ap (λ (xs : List Span). map (span_edge B) (filter (span_crossed c.args.inside.now) xs)) all in
-    record {
-      value = e;
-      count = sym (length-take-le c.loop-i.count c.loop-i.items (omega arith)) ∙ ap length e;
-      few = omega arith;
-    }
+    c.loop-span.invariant.items
+    ∙ ap (λ (xs : List Span). map (span_edge c.args.self.base) (filter (span_crossed c.args.inside.now) xs)) (take_all c.loop-span.span-index spans c.loop-span-test.false)
