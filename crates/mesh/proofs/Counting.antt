@@ -1,6 +1,6 @@
 -- Counting the numbers that pass a test. Assumes nothing.
 use Rattle.std.proofs.Common.{◌≡◌, ℕ, zero, suc, ◌+◌, ◌<◌, ◌≤◌, Bool, true, false, cond, not, eqb, ◌⊎◌, sym, refl, ap, ◌∙◌, subst, inl, inr, ⊎_elim, add-one, arith}
-use Rattle.std.proofs.lemmas.Bool.{cases_eq, cases_Bool, cases_order, cond-true, cond-false, true≢false}
+use Rattle.std.proofs.lemmas.Bool.{cases_eq, cases_Bool, cases_order, true≢false}
 use Rattle.std.proofs.lemmas.Bool.Decides.{nat_tests}
 use Rattle.mesh.specs.Counting.{count}
 
@@ -32,11 +32,11 @@ at_most (suc n) (suc m) g below one =
 module _ (p : ℕ → Bool) where
   count_at : (n : ℕ) → p n ≡ true → count p (suc n) ≡ count p n + 1
   unfolding count
-  count_at n e = ap (λ (k : ℕ). count p n + k) (cond-true (p n) 1 0 e)
+  count_at n e = grind arith
 
   count_off : (n : ℕ) → p n ≡ false → count p (suc n) ≡ count p n
   unfolding count
-  count_off n e = ap (λ (k : ℕ). count p n + k) (cond-false (p n) 1 0 e) ∙ omega arith
+  count_off n e = grind arith
 
   count_up : (n : ℕ) → count p n ≤ count p (suc n)
   count_up n = ⊎_elim (λ e. omega (arith, count_at n e)) (λ d. omega (arith, count_off n d)) (cases_Bool (p n))
@@ -77,6 +77,11 @@ module _ (p : ℕ → Bool) where
   pub count_more : (n : ℕ) → count p (n + 1) ≡ count p n + cond (p n) 1 0
   unfolding count
   count_more n = ap (count p) (add-one n)
+
+  pub count_front : (n : ℕ) → count p (suc n) ≡ cond (p 0) 1 0 + count (λ x. p (suc x)) n
+  unfolding count
+  count_front zero = omega arith
+  count_front (suc n) = omega (arith, count_front n)
 
   pub count_le : (n : ℕ) → count p n ≤ n
   unfolding count

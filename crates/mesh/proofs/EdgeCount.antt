@@ -31,17 +31,13 @@ place_runs : (t : Triangle ℕ) (j : ℕ) → Runs t (from_of t j) (to_of t j)
 place_runs t j = grind (arith, nat_tests)
 
 place_one : (t : Triangle ℕ) (i j : ℕ) → Apart t → i < 3 → j < 3 → from_of t i ≡ from_of t j → i ≡ j
-place_one t i j d h k e = let ab = d.ab in let bc = d.bc in let ca = d.ca in grind (arith, nat_tests)
+place_one t i j d h k e = grind arith
 
 runs_place : (t : Triangle ℕ) (u v : ℕ) → Runs t u v → (j : ℕ) × (j < 3) × (from_of t j ≡ u) × (to_of t j ≡ v)
-runs_place t u v r =
-    ⊎_elim
-    (λ p. (0, omega arith, sym p.0, sym p.1))
-    (λ o. ⊎_elim (λ p. (1, omega arith, sym p.0, sym p.1)) (λ p. (2, omega arith, sym p.0, sym p.1)) o)
-    r
+runs_place t u v r = grind arith
 
 runs_apart : (t : Triangle ℕ) (u v : ℕ) → Apart t → Runs t u v → u ≡ v → ⊥
-runs_apart t u v d r e = let ab = d.ab in let bc = d.bc in let ca = d.ca in grind arith
+runs_apart t u v d r e = grind arith
 
 module _ (ts : List (Triangle ℕ)) (mesh : Mesh ts) where
   abbrev src : ℕ → ℕ
@@ -111,7 +107,7 @@ module _ (ts : List (Triangle ℕ)) (mesh : Mesh ts) where
       (λ s r h k e f z. reverse_one s r h k z)
 
   other : (s : ℕ) → s < 3 * length ts → down s ≡ not (up s)
-  other s h = let d = side_apart s h in grind (arith, nat_tests)
+  other s h = grind arith
 
   pub halves : 2 * count up (3 * length ts) ≡ 3 * length ts
   halves = omega (arith, up_down, down_up, count_not up down (3 * length ts) other)

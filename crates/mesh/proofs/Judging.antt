@@ -1,37 +1,27 @@
 -- A mesh without faults is a closed oriented surface, and the verdict by the first fault. Assumes nothing.
 use Rattle.std.proofs.Common.{◌≡◌, ℕ, ◌<◌, ◌⊎◌, List, length, Some, sym, refl, inl, inr, ⊎_elim, arith}
-use Rattle.std.proofs.lemmas.Bool.{cases_Bool, cases_eq, cases_lt, cases_order, both_ways}
+use Rattle.std.proofs.lemmas.Bool.{cases_order}
 use Rattle.grid.specs.declared.geometry.Triangle.{Triangle}
 use Rattle.mesh.specs.declared.verdicts.Counts.{Counts}
 use Rattle.mesh.specs.declared.verdicts.Verdict.{Verdict}
 use Rattle.mesh.specs.declared.verdicts.Verdict.TheVariants as verdict
-use Rattle.mesh.specs.Triangles.{triangle_at, Runs, Apart, Below}
+use Rattle.mesh.specs.Triangles.{triangle_at, Runs, Apart}
 use Rattle.mesh.specs.Rings.{At, OneRing, MoreRings}
 use Rattle.mesh.specs.Surfaces.{Surface}
-use Rattle.mesh.specs.Counting.{is_at}
 use Rattle.mesh.specs.First.{Clear, First}
 use Rattle.mesh.specs.Faults.{Misnamed, Doubled, Unpaired, Bare, Fault}
 use Rattle.mesh.specs.Verdicts.{report, Counted, Judged, SoundForSurfaces}
 use Rattle.mesh.proofs.Counting.{some_or}
-use Rattle.mesh.proofs.Round.{Mesh, at_is, is_at_at, ring_or}
+use Rattle.mesh.proofs.Named.{named_below, named_apart}
+use Rattle.mesh.proofs.Round.{Mesh, ring_or}
 
 -- what can be decided
 
-pair_or : (u v x y : ℕ) → ((u ≡ x) × (v ≡ y)) ⊎ ((u ≡ x) × (v ≡ y) → ⊥)
-pair_or u v x y =
-    ⊎_elim
-    (λ p. ⊎_elim (λ q. inl (p, q)) (λ o. inr (λ z. o z.1)) (cases_eq v y))
-    (λ o. inr (λ z. o z.0))
-    (cases_eq u x)
-
 pub runs_or : (t : Triangle ℕ) (u v : ℕ) → Runs t u v ⊎ (Runs t u v → ⊥)
-runs_or t u v =
-    ⊎_elim (λ p. inl (inl p)) (λ x. ⊎_elim (λ p. inl (inr (inl p))) (λ y. ⊎_elim (λ p. inl (inr (inr p)))
-    (λ z. inr (λ r. ⊎_elim x (λ s. ⊎_elim y z s) r))
-    (pair_or u v t.c t.a)) (pair_or u v t.b t.c)) (pair_or u v t.a t.b)
+runs_or t u v = grind arith
 
 at_or : (ts : List (Triangle ℕ)) (v k : ℕ) → At ts v k ⊎ (At ts v k → ⊥)
-at_or ts v k = ⊎_elim (λ e. inl (is_at_at ts v k e)) (λ e. inr (λ a. both_ways (is_at ts v k) e (at_is ts v k a))) (cases_Bool (is_at ts v k))
+at_or ts v k = grind arith
 
 -- faults by their number
 
@@ -42,11 +32,7 @@ pub fault_by : {C : Type 0} (n : ℕ) (ts : List (Triangle ℕ)) (m q : ℕ) →
     → (m ≡ 4 → q < n → Bare ts q → C)
     → (m ≡ 5 → q < n → MoreRings ts q → C)
     → C
-fault_by n ts m q f one two three four five =
-    ⊎_elim (λ x. one x.0 x.1 x.2)
-    (λ o. ⊎_elim (λ x. two x.0 x.1 x.2)
-    (λ o. ⊎_elim (λ x. three x.0 x.1 x.2)
-    (λ o. ⊎_elim (λ x. four x.0 x.1 x.2) (λ x. five x.0 x.1 x.2) o) o) o) f
+fault_by n ts m q f one two three four five = grind arith
 
 module _ (n : ℕ) (ts : List (Triangle ℕ)) where
   -- a surface has no fault
@@ -63,19 +49,8 @@ module _ (n : ℕ) (ts : List (Triangle ℕ)) where
       (λ e h x. x.apart ((s.rings q h).leads x.from x.to x.from_at x.to_at))
 
   module _ (named : Clear (Misnamed n ts) (length ts)) where
-    pub clear_below : (k : ℕ) → k < length ts → Below n (triangle_at ts k)
-    clear_below k h = record {
-      a_below = ⊎_elim (λ b. b) (λ b. absurd (named k h (inl b))) (cases_lt (triangle_at ts k).a n);
-      b_below = ⊎_elim (λ b. b) (λ b. absurd (named k h (inr (inl b)))) (cases_lt (triangle_at ts k).b n);
-      c_below = ⊎_elim (λ b. b) (λ b. absurd (named k h (inr (inr (inl b))))) (cases_lt (triangle_at ts k).c n);
-    }
-
     different : (k : ℕ) → k < length ts → Apart (triangle_at ts k)
-    different k h = record {
-      ab = λ e. named k h (inr (inr (inr (inl e))));
-      bc = λ e. named k h (inr (inr (inr (inr (inl e)))));
-      ca = λ e. named k h (inr (inr (inr (inr (inr e)))));
-    }
+    different k h = named_apart n (triangle_at ts k) (named k h)
 
     -- the first three rules in other words
     pub clear_mesh : Clear (Doubled ts) (length ts) → Clear (Unpaired ts) (length ts) → Mesh ts
@@ -119,7 +94,7 @@ module _ (n : ℕ) (ts : List (Triangle ℕ)) where
     -- a mesh without faults is a surface
     pub clear_surface : Surface n ts
     clear_surface = record {
-      below = clear_below named_all;
+      below = λ k h. named_below n (triangle_at ts k) (named_all k h);
       different = mesh.different;
       once = mesh.once;
       paired = mesh.paired;
@@ -145,19 +120,10 @@ module _ (n : ℕ) (ts : List (Triangle ℕ)) where
   )
 
   here : (number place q : ℕ) → Ahead number place number q → q < place
-  here number place q o = ⊎_elim (λ l. absurd (omega arith)) (λ p. p.1) o
+  here number place q o = grind arith
 
   later : (number place r q : ℕ) → number < r → Ahead number place r q → ⊥
-  later number place r q lt o = ⊎_elim (λ l. omega arith) (λ p. omega (arith, p.0)) o
-
-  pub judged_misnamed : (k : ℕ) → First (Misnamed n ts) (length ts) (Some k) → Judged n ts 1 (inl k)
-  judged_misnamed k f =
-      judge 1 k (inl (refl, f.0, f.1))
-      (λ q o b. f.2 q (here 1 k q o))
-      (λ q o b x. later 1 k 2 q (omega arith) o)
-      (λ q o b x. later 1 k 3 q (omega arith) o)
-      (λ q o b x. later 1 k 4 q (omega arith) o)
-      (λ q o b x. later 1 k 5 q (omega arith) o)
+  later number place r q lt o = grind arith
 
   module _ (named : Clear (Misnamed n ts) (length ts)) where
     pub judged_doubled : (k : ℕ) → First (Doubled ts) (length ts) (Some k) → Judged n ts 2 (inl k)

@@ -7,7 +7,6 @@ use Rattle.mesh.specs.Triangles.{no_triangle, triangle_at, Corner, Runs}
 use Rattle.mesh.specs.MeshEdges.{MeshEdge}
 use Rattle.mesh.specs.Parts.{Joined, stay, step}
 use Rattle.mesh.specs.Forests.{Settled, link, merge, merge_corners, labels}
-use Rattle.mesh.proofs.Pointers.{link_both, link_low}
 
 -- walks
 
@@ -16,7 +15,7 @@ walk_on stay k = k
 walk_on (step e j) k = step e (walk_on j k)
 
 pub edge_back : {ts : List (Triangle ℕ)} {u v : ℕ} → MeshEdge ts u v → MeshEdge ts v u
-edge_back e = record { at = e.at; within = e.within; runs = ⊎_elim inr inl e.runs }
+edge_back e = grind arith
 
 pub walk_back : {ts : List (Triangle ℕ)} {u v : ℕ} → Joined ts u v → Joined ts v u
 walk_back stay = stay
@@ -36,16 +35,7 @@ link_again : (p q y : ℕ) → link p q (link p q y) ≡ link p q y
 link_again p q y = grind (arith, nat_tests)
 
 pub merge_settled : (f : ℕ → ℕ) (u v : ℕ) → Settled f → Settled (merge f u v)
-merge_settled f u v s = record {
-  low = λ x. omega (arith, link_low (f u) (f v) (f x), s.low x);
-  again = λ x.
-      let fixed : f (link (f u) (f v) (f x)) ≡ link (f u) (f v) (f x) =
-      ⊎_elim
-      (λ e. ap f e ∙ s.again x ∙ sym e)
-      (λ o. ⊎_elim (λ e. ap f e.1 ∙ s.again v ∙ sym e.1) (λ e. ap f e.1 ∙ s.again u ∙ sym e.1) o)
-      (link_cases (f u) (f v) (f x)) in
-      ap (link (f u) (f v)) fixed ∙ link_again (f u) (f v) (f x);
-}
+merge_settled f u v s = grind arith
 
 pub corners_settled : (f : ℕ → ℕ) (t : Triangle ℕ) → Settled f → Settled (merge_corners f t)
 corners_settled f t s = merge_settled (merge f t.a t.b) t.b t.c (merge_settled f t.a t.b s)
@@ -56,7 +46,7 @@ labels_settled f [] s = s
 labels_settled f (t ∷ ts) s = labels_settled (merge_corners f t) ts (corners_settled f t s)
 
 pub settled_none : Settled (λ (x : ℕ). x)
-settled_none = record { low = λ x. omega arith; again = λ x. refl }
+settled_none = grind arith
 
 -- one triangle more
 
@@ -64,11 +54,6 @@ labels_push : (f : ℕ → ℕ) (ts : List (Triangle ℕ)) (t : Triangle ℕ) �
 unfolding labels
 labels_push f [] t = refl
 labels_push f (x ∷ ts) t = labels_push (merge_corners f x) ts t
-
-pub labels_none : (f : ℕ → ℕ) (ts : List (Triangle ℕ)) → labels f (take 0 ts) ≡ f
-unfolding labels
-labels_none f [] = refl
-labels_none f (t ∷ ts) = refl
 
 pub labels_more : (f : ℕ → ℕ) (ts : List (Triangle ℕ)) (k : ℕ) → k < length ts → merge_corners (labels f (take k ts)) (triangle_at ts k) ≡ labels f (take (k + 1) ts)
 labels_more f ts k h = sym (ap (labels f) (take_more ts k no_triangle h) ∙ labels_push f (take k ts) (triangle_at ts k))
@@ -83,14 +68,7 @@ labels_keep f (t ∷ ts) u v e =
     (ap (λ (y : ℕ). link (merge f t.a t.b t.b) (merge f t.a t.b t.c) (link (f t.a) (f t.b) y)) e)
 
 corner_same : (f : ℕ → ℕ) (t : Triangle ℕ) (v : ℕ) → Corner t v → merge_corners f t v ≡ merge_corners f t t.b
-corner_same f t v c =
-    let g : ℕ → ℕ = merge f t.a t.b in
-    let ab : g t.a ≡ g t.b = link_both (f t.a) (f t.b) in
-    let bc : merge_corners f t t.b ≡ merge_corners f t t.c = link_both (g t.b) (g t.c) in
-    ⊎_elim
-    (λ e. ap (merge_corners f t) e ∙ ap (link (g t.b) (g t.c)) ab)
-    (λ o. ⊎_elim (λ e. ap (merge_corners f t) e) (λ e. ap (merge_corners f t) e ∙ sym bc) o)
-    c
+corner_same f t v c = grind arith
 
 labels_corners : (f : ℕ → ℕ) (ts : List (Triangle ℕ)) (k u v : ℕ) → k < length ts → Corner (triangle_at ts k) u → Corner (triangle_at ts k) v → labels f ts u ≡ labels f ts v
 unfolding labels
@@ -99,11 +77,7 @@ labels_corners f (t ∷ ts) zero u v h p q = labels_keep (merge_corners f t) ts 
 labels_corners f (t ∷ ts) (suc k) u v h p q = labels_corners (merge_corners f t) ts k u v (omega arith) p q
 
 runs_ends : (t : Triangle ℕ) (u v : ℕ) → Runs t u v → Corner t u × Corner t v
-runs_ends t u v r =
-    ⊎_elim
-    (λ p. (inl p.0, inr (inl p.1)))
-    (λ o. ⊎_elim (λ p. (inr (inl p.0), inr (inr p.1))) (λ p. (inr (inr p.0), inl p.1)) o)
-    r
+runs_ends t u v r = grind arith
 
 pub labels_same : (f : ℕ → ℕ) (ts : List (Triangle ℕ)) {u v : ℕ} → Joined ts u v → labels f ts u ≡ labels f ts v
 labels_same f ts j =

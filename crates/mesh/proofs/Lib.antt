@@ -6,7 +6,9 @@ pub mod EdgeCount
 pub mod Pointers
 pub mod Labels
 pub mod Grouping
+pub mod Named
 pub mod Judging
+pub mod Firsts
 pub mod EdgeNotes
 pub mod Tallies
 pub mod Vertices

@@ -1,33 +1,17 @@
 -- What a write to one parent pointer leaves. Assumes nothing.
-use Rattle.std.proofs.Common.{◌≡◌, ℕ, ◌+◌, ◌<◌, ◌≤◌, List, length, set, sym, refl, ap, ◌∙◌, subst, ⊎_elim, arith, length-set}
+use Rattle.std.proofs.Common.{◌≡◌, ℕ, ◌<◌, ◌≤◌, ◌⊎◌, inl, inr, List, length, min, max, set, sym, refl, ap, ◌∙◌, subst, ⊎_elim, arith, length-set}
 use Rattle.std.proofs.lemmas.List.{get_or-set_same, get_or-set_other}
-use Rattle.std.proofs.lemmas.Bool.{cases_eq}
+use Rattle.std.proofs.lemmas.Bool.{cases_eq, cases_lt}
 use Rattle.std.proofs.lemmas.Bool.Decides.{nat_tests}
 use Rattle.mesh.specs.declared.verdicts.VertexRecord.{VertexRecord}
 use Rattle.mesh.specs.VertexNotes.{no_record}
-use Rattle.mesh.specs.Forests.{parent_of, Own, Lowered, Forest, Settled, link, merge}
+use Rattle.mesh.specs.Forests.{parent_of, Forest, Settled, link, merge}
 
 pub parent_same : (ps : List VertexRecord) (i : ℕ) (r : VertexRecord) → i < length ps → parent_of (set ps i r) i ≡ r.parent
 parent_same ps i r h = ap (λ (p : VertexRecord). p.parent) (get_or-set_same ps i r no_record h)
 
 pub parent_other : (ps : List VertexRecord) (i : ℕ) (r : VertexRecord) (x : ℕ) → (x ≡ i → ⊥) → parent_of (set ps i r) x ≡ parent_of ps x
 parent_other ps i r x d = ap (λ (p : VertexRecord). p.parent) (get_or-set_other ps i x r no_record d)
-
-pub own_more : (ps : List VertexRecord) (i : ℕ) (r : VertexRecord) → i < length ps → r.parent ≡ i → Own ps i → Own (set ps i r) (i + 1)
-own_more ps i r h e o = record {
-  own = λ x b. ⊎_elim
-      (λ s. subst (λ (y : ℕ). parent_of (set ps i r) y ≡ y) (sym s) (parent_same ps i r h ∙ e))
-      (λ d. parent_other ps i r x d ∙ o.own x (omega arith))
-      (cases_eq x i);
-}
-
-pub lowered_set : (ps : List VertexRecord) (i : ℕ) (r : VertexRecord) → i < length ps → r.parent ≤ i → Lowered ps → Lowered (set ps i r)
-lowered_set ps i r h le l = record {
-  low = λ x b. ⊎_elim
-      (λ s. subst (λ (y : ℕ). parent_of (set ps i r) y ≤ y) (sym s) (omega (arith, parent_same ps i r h)))
-      (λ d. omega (arith, parent_other ps i r x d, l.low x (omega (arith, length-set ps i r))))
-      (cases_eq x i);
-}
 
 -- A write that keeps what each vertex stands for, up to `h`.
 pub forest_set : (f h : ℕ → ℕ) (ps : List VertexRecord) (i : ℕ) (r : VertexRecord) → i < length ps → r.parent ≤ i
@@ -68,41 +52,24 @@ halved f ps i r b e F =
 pub link_both : (p q : ℕ) → link p q p ≡ link p q q
 link_both p q = grind (arith, nat_tests)
 
+link_ends : (p q : ℕ) → link p q (min p q) ≡ link p q (max p q)
+link_ends p q = grind (arith, nat_tests)
+
 pub link_low : (p q y : ℕ) → link p q y ≤ y
 link_low p q y = grind (arith, nat_tests)
 
--- the smaller of two in place of the parent of the larger, which stand for groups
-pub linked_left : (f : ℕ → ℕ) (ps : List VertexRecord) (p q : ℕ) (r : VertexRecord) → q < length ps → p < q → r.parent ≡ p → f p ≡ p → f q ≡ q
-    → Forest f ps → Forest (λ y. link p q (f y)) (set ps q r)
-linked_left f ps p q r b lt e ep eq F =
-    forest_set f (link p q) ps q r b (omega arith)
-    (ap (λ (y : ℕ). link p q (f y)) e ∙ ap (link p q) ep ∙ link_both p q ∙ ap (link p q) (sym eq))
-    (λ s. absurd (omega arith))
+-- the smaller of two in place of the parent of the larger, which stand for the groups of two vertices
+pub joined : (f : ℕ → ℕ) (ps : List VertexRecord) (u v p q i : ℕ) (r : VertexRecord) → p ≡ f u → q ≡ f v → i ≡ max p q → i < length ps → r.parent ≡ min p q
+    → Settled f → Forest f ps → Forest (merge f u v) (set ps i r)
+joined f ps u v p q i r eu ev ei b e s F =
+    let stands : (m : ℕ) → (m ≡ p) ⊎ (m ≡ q) → f m ≡ m =
+    λ m o. ⊎_elim (λ w. ap f (w ∙ eu) ∙ s.again u ∙ sym (w ∙ eu)) (λ w. ap f (w ∙ ev) ∙ s.again v ∙ sym (w ∙ ev)) o in
+    let low : f r.parent ≡ r.parent = stands r.parent (⊎_elim (λ h. inl (omega arith)) (λ h. inr (omega arith)) (cases_lt p q)) in
+    let high : f i ≡ i = stands i (⊎_elim (λ h. inr (omega arith)) (λ h. inl (omega arith)) (cases_lt p q)) in
+    subst (λ (m : ℕ). Forest (λ y. link (f u) m (f y)) (set ps i r)) ev
+    (subst (λ (n : ℕ). Forest (λ y. link n q (f y)) (set ps i r)) eu
+    (forest_set f (link p q) ps i r b (omega arith)
+    (ap (link p q) (low ∙ e) ∙ link_ends p q ∙ ap (link p q) (sym (high ∙ ei)))
+    (λ w. ap (link p q) high ∙ grind (arith, nat_tests))
     (λ x d w. grind (arith, nat_tests))
-    F
-
-pub linked_right : (f : ℕ → ℕ) (ps : List VertexRecord) (p q : ℕ) (r : VertexRecord) → p < length ps → q ≤ p → r.parent ≡ q → f p ≡ p → f q ≡ q
-    → Forest f ps → Forest (λ y. link p q (f y)) (set ps p r)
-linked_right f ps p q r b le e ep eq F =
-    forest_set f (link p q) ps p r b (omega arith)
-    (ap (λ (y : ℕ). link p q (f y)) e ∙ ap (link p q) eq ∙ sym (link_both p q) ∙ ap (link p q) (sym ep))
-    (λ s. let z : q ≡ p = omega arith in ap (link p q) ep ∙ grind (arith, nat_tests))
-    (λ x d w. grind (arith, nat_tests))
-    F
-
--- and so with any vertices of the two groups
-pub joined_left : (f : ℕ → ℕ) (ps : List VertexRecord) (u v p q : ℕ) (r : VertexRecord) → p ≡ f u → q ≡ f v → q < length ps → p < q → r.parent ≡ p
-    → Settled f → Forest f ps → Forest (merge f u v) (set ps q r)
-joined_left f ps u v p q r eu ev b lt e s F =
-    let fp : f p ≡ p = ap f eu ∙ s.again u ∙ sym eu in
-    let fq : f q ≡ q = ap f ev ∙ s.again v ∙ sym ev in
-    subst (λ (m : ℕ). Forest (λ y. link (f u) m (f y)) (set ps q r)) ev
-    (subst (λ (n : ℕ). Forest (λ y. link n q (f y)) (set ps q r)) eu (linked_left f ps p q r b lt e fp fq F))
-
-pub joined_right : (f : ℕ → ℕ) (ps : List VertexRecord) (u v p q : ℕ) (r : VertexRecord) → p ≡ f u → q ≡ f v → p < length ps → q ≤ p → r.parent ≡ q
-    → Settled f → Forest f ps → Forest (merge f u v) (set ps p r)
-joined_right f ps u v p q r eu ev b le e s F =
-    let fp : f p ≡ p = ap f eu ∙ s.again u ∙ sym eu in
-    let fq : f q ≡ q = ap f ev ∙ s.again v ∙ sym ev in
-    subst (λ (m : ℕ). Forest (λ y. link (f u) m (f y)) (set ps p r)) ev
-    (subst (λ (n : ℕ). Forest (λ y. link n q (f y)) (set ps p r)) eu (linked_right f ps p q r b le e fp fq F))
+    F))

@@ -30,20 +30,20 @@ pub runs_before : (t : Triangle ℕ) (v : ℕ) → Corner t v → Runs t (before
 runs_before t v c = grind (arith, nat_tests)
 
 pub before_one : (t : Triangle ℕ) (u v : ℕ) → Apart t → Runs t u v → u ≡ before t v
-before_one t u v d r = let ab = d.ab in let bc = d.bc in let ca = d.ca in grind (arith, nat_tests)
+before_one t u v d r = grind arith
 
 pub after_one : (t : Triangle ℕ) (v x y : ℕ) → Apart t → Runs t v x → Runs t v y → x ≡ y
-after_one t v x y d p q = let ab = d.ab in let bc = d.bc in let ca = d.ca in grind arith
+after_one t v x y d p q = grind arith
 
 -- three directed edges go round
 pub runs_third : (t : Triangle ℕ) (v x : ℕ) → Apart t → Runs t v x → Runs t x (before t v)
-runs_third t v x d r = let ab = d.ab in let bc = d.bc in let ca = d.ca in grind (arith, nat_tests)
+runs_third t v x d r = grind arith
 
 pub runs_corner : (t : Triangle ℕ) (v x : ℕ) → Runs t v x → Corner t v
-runs_corner t v x r = ⊎_elim (λ p. inl p.0) (λ o. ⊎_elim (λ p. inr (inl p.0)) (λ p. inr (inr p.0)) o) r
+runs_corner t v x r = grind arith
 
 pub at_is : (ts : List (Triangle ℕ)) (v k : ℕ) → At ts v k → is_at ts v k ≡ true
-at_is ts v k a = let w = a.within in let c = a.corner in grind (arith, nat_tests)
+at_is ts v k a = grind arith
 
 pub is_at_at : (ts : List (Triangle ℕ)) (v k : ℕ) → is_at ts v k ≡ true → At ts v k
 is_at_at ts v k e =

@@ -9,7 +9,7 @@ use Rattle.mesh.specs.Counting.{count, is_at}
 use Rattle.mesh.specs.EdgeTables.{turn, after, Noted, Early}
 use Rattle.mesh.proofs.Round.{Mesh, before, before_one, after_one, runs_third, runs_corner, onward, goes, stepped, ring_whole, ring_more}
 
-module _ (ts : List (Triangle ℕ)) (mesh : Mesh ts) (es : List (Entry DirectedEdge)) (noted : Noted ts (length ts) es) (v : ℕ) where
+module _ (ts : List (Triangle ℕ)) (mesh : Mesh ts) (es : List (Option (Entry DirectedEdge))) (noted : Noted ts (length ts) es) (v : ℕ) where
   turned : (k x : ℕ) → At ts v k → Runs (triangle_at ts k) v x → Runs (triangle_at ts (onward ts mesh v k)) v (turn es v x)
   turned k x a r =
       let t = triangle_at ts k in

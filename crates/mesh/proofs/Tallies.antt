@@ -1,6 +1,6 @@
 -- One triangle more in the notes of the vertices, and what the notes say once all are in. Assumes nothing.
-use Rattle.std.proofs.Common.{◌≡◌, ℕ, ◌+◌, ◌<◌, ◌≤◌, false, cond, List, length, sym, refl, ap, ◌∙◌, subst, inl, inr, ⊎_elim, arith}
-use Rattle.std.proofs.lemmas.Bool.{cases_Bool, cond-true, cond-false, both_ways}
+use Rattle.std.proofs.Common.{◌≡◌, ℕ, ◌+◌, ◌<◌, ◌≤◌, false, cond, List, length, sym, ap, ◌∙◌, subst, ⊎_elim, arith}
+use Rattle.std.proofs.lemmas.Bool.{cases_Bool, cond-true, cond-false}
 use Rattle.grid.specs.declared.geometry.Triangle.{Triangle}
 use Rattle.mesh.specs.declared.verdicts.VertexRecord.{VertexRecord}
 use Rattle.mesh.specs.Triangles.{triangle_at, Corner, Runs, Apart, Has}
@@ -8,7 +8,7 @@ use Rattle.mesh.specs.Faults.{Bare}
 use Rattle.mesh.specs.Counting.{count, is_at}
 use Rattle.mesh.specs.VertexNotes.{degree_at, neighbour_at, Tallied, Surveyed}
 use Rattle.mesh.proofs.Counting.{count_none, count_more, count_le, count_strict}
-use Rattle.mesh.proofs.Round.{at_is, is_at_at, runs_corner}
+use Rattle.mesh.proofs.Round.{at_is, is_at_at}
 
 pub surveyed_none : (ts : List (Triangle ℕ)) (ps : List VertexRecord) → ((v : ℕ) → v < length ps → degree_at ps v ≡ 0) → Surveyed ts 0 ps
 surveyed_none ts ps zeros = record {
@@ -29,39 +29,22 @@ module _ (ts : List (Triangle ℕ)) (k : ℕ) (within : k < length ts) (apart : 
   Here v = (degree_at p3 v ≡ degree_at ps v + 1) × Runs (triangle_at ts k) v (neighbour_at p3 v)
 
   here_a : Here t.a
-  here_a =
-      let x = tc.others t.a (λ e. apart.ca (sym e)) in
-      let y = tb.others t.a apart.ab in
-      (x.0 ∙ y.0 ∙ ta.more, inl (refl, x.1 ∙ y.1 ∙ ta.first))
+  here_a = grind arith
 
   here_b : Here t.b
-  here_b =
-      let x = tc.others t.b apart.bc in
-      let z = ta.others t.b (λ e. apart.ab (sym e)) in
-      (x.0 ∙ tb.more ∙ ap (λ (n : ℕ). n + 1) z.0, inr (inl (refl, x.1 ∙ tb.first)))
+  here_b = grind arith
 
   here_c : Here t.c
-  here_c =
-      let y = tb.others t.c (λ e. apart.bc (sym e)) in
-      let z = ta.others t.c apart.ca in
-      (tc.more ∙ ap (λ (n : ℕ). n + 1) (y.0 ∙ z.0), inr (inr (refl, tc.first)))
+  here_c = grind arith
 
   here : (v : ℕ) → Corner (triangle_at ts k) v → Here v
-  here v c =
-      ⊎_elim
-      (λ e. subst Here (sym e) here_a)
-      (λ o. ⊎_elim (λ e. subst Here (sym e) here_b) (λ e. subst Here (sym e) here_c) o)
-      c
+  here v c = grind arith
 
   kept : (v : ℕ) → (Corner (triangle_at ts k) v → ⊥) → (degree_at p3 v ≡ degree_at ps v) × (neighbour_at p3 v ≡ neighbour_at ps v)
-  kept v d =
-      let x = tc.others v (λ e. d (inr (inr e))) in
-      let y = tb.others v (λ e. d (inr (inl e))) in
-      let z = ta.others v (λ e. d (inl e)) in
-      (x.0 ∙ y.0 ∙ z.0, x.1 ∙ y.1 ∙ z.1)
+  kept v d = grind arith
 
   corner : (v : ℕ) → is_at ts v k ≡ false → Corner (triangle_at ts k) v → ⊥
-  corner v e c = both_ways (is_at ts v k) e (at_is ts v k (record { within = within; corner = c }))
+  corner v e c = grind arith
 
   pub surveyed_more : Surveyed ts (k + 1) p3
   surveyed_more = record {
@@ -89,6 +72,4 @@ module _ (ts : List (Triangle ℕ)) (ps : List VertexRecord) (s : Surveyed ts (l
   zero_bare z k a = omega (arith, s.degrees v h, count_strict (is_at ts v) k (length ts) (at_is ts v k a) a.within)
 
   pub some_not_bare : 0 < degree_at ps v → Bare ts v → ⊥
-  some_not_bare p b =
-      let f = s.firsts v h p in
-      b f.at (record { within = f.within; corner = runs_corner (triangle_at ts f.at) v (neighbour_at ps v) f.runs })
+  some_not_bare p b = grind arith

@@ -1,6 +1,5 @@
 -- What the notes of the vertices and the table of directed edges say of bare and torn vertices. Assumes nothing.
-use Rattle.std.proofs.Common.{◌≡◌, ℕ, ◌<◌, List, length, Some, None, Option, sym, subst, ⊎_elim, arith}
-use Rattle.std.proofs.lemmas.Bool.{cases_eq}
+use Rattle.std.proofs.Common.{◌≡◌, ℕ, ◌<◌, List, length, Some, None, Option, sym, subst, arith}
 use Rattle.grid.specs.declared.geometry.Triangle.{Triangle}
 use Rattle.keymap.specs.declared.table.Entry.{Entry}
 use Rattle.mesh.specs.declared.sides.DirectedEdge.{DirectedEdge}
@@ -20,38 +19,41 @@ first_like : (P Q : ℕ → Type 0) (n : ℕ) → ((k : ℕ) → k < n → P k �
 first_like P Q n to back None clear = λ k h. back k h (clear k h)
 first_like P Q n to back (Some i) f = (f.0, to i f.0 f.1, λ k h. back k (omega (arith, f.0)) (f.2 k h))
 
-module _ (ts : List (Triangle ℕ)) (ps : List VertexRecord) (s : Surveyed ts (length ts) ps) (n : ℕ) (size : length ps ≡ n) where
+module _ (ts : List (Triangle ℕ)) (ps : List VertexRecord) (s : Surveyed ts (length ts) ps) (m n : ℕ) (size : length ps ≡ m) (same : m ≡ n) where
   some : (v : ℕ) → (degree_at ps v ≡ 0 → ⊥) → 0 < degree_at ps v
-  some v d = ⊎_elim (λ z. absurd (d z)) (λ o. omega arith) (cases_eq (degree_at ps v) 0)
+  some v d = omega arith
 
-  pub first_bare : (o : Option ℕ) → First (λ v. degree_at ps v ≡ 0) (length ps) o → First (Bare ts) n o
+  pub first_bare : (o : Option ℕ) → First (λ v. degree_at ps v ≡ 0) m o → First (Bare ts) n o
   first_bare o f =
-      subst (λ (m : ℕ). First (Bare ts) m o) size
-      (first_like (λ v. degree_at ps v ≡ 0) (Bare ts) (length ps) (λ v h. zero_bare ts ps s v h) (λ v h d. some_not_bare ts ps s v h (some v d)) o f)
+      subst (λ (k : ℕ). First (Bare ts) k o) same
+      (first_like (λ v. degree_at ps v ≡ 0) (Bare ts) m
+      (λ v h. zero_bare ts ps s v (omega arith))
+      (λ v h d. some_not_bare ts ps s v (omega arith) (some v d))
+      o f)
 
-  module _ (mesh : Mesh ts) (es : List (Entry DirectedEdge)) (noted : Noted ts (length ts) es) (cover : Clear (λ v. degree_at ps v ≡ 0) (length ps)) where
+  module _ (mesh : Mesh ts) (es : List (Option (Entry DirectedEdge))) (noted : Noted ts (length ts) es) (cover : Clear (λ v. degree_at ps v ≡ 0) m) where
     abbrev Turns : ℕ → ℕ → Type 0
     Turns v d = Early es v (neighbour_at ps v) d
 
-    early_torn : (v : ℕ) → v < length ps → Turns v (degree_at ps v) → MoreRings ts v
+    early_torn : (v : ℕ) → v < m → Turns v (degree_at ps v) → MoreRings ts v
     early_torn v h e =
-        early_more ts mesh es noted v (neighbour_at ps v) (s.firsts v h (some v (cover v h)))
-        (subst (λ (d : ℕ). Turns v d) (s.degrees v h) e)
+        early_more ts mesh es noted v (neighbour_at ps v) (s.firsts v (omega arith) (some v (cover v h)))
+        (subst (λ (d : ℕ). Turns v d) (s.degrees v (omega arith)) e)
 
-    late_whole : (v : ℕ) → v < length ps → (Turns v (degree_at ps v) → ⊥) → MoreRings ts v → ⊥
+    late_whole : (v : ℕ) → v < m → (Turns v (degree_at ps v) → ⊥) → MoreRings ts v → ⊥
     late_whole v h late m =
         let one : OneRing ts v =
-        late_one ts mesh es noted v (neighbour_at ps v) (s.firsts v h (some v (cover v h)))
-        (λ e. late (subst (λ (d : ℕ). Turns v d) (sym (s.degrees v h)) e)) in
+        late_one ts mesh es noted v (neighbour_at ps v) (s.firsts v (omega arith) (some v (cover v h)))
+        (λ e. late (subst (λ (d : ℕ). Turns v d) (sym (s.degrees v (omega arith))) e)) in
         m.apart (one.leads m.from m.to m.from_at m.to_at)
 
-    pub first_torn : (o : Option ℕ) → First (λ v. Early es v (neighbour_at ps v) (degree_at ps v)) (length ps) o → First (MoreRings ts) n o
+    pub first_torn : (o : Option ℕ) → First (λ v. Early es v (neighbour_at ps v) (degree_at ps v)) m o → First (MoreRings ts) n o
     first_torn o f =
-        subst (λ (m : ℕ). First (MoreRings ts) m o) size
-        (first_like (λ v. Turns v (degree_at ps v)) (MoreRings ts) (length ps) early_torn late_whole o f)
+        subst (λ (k : ℕ). First (MoreRings ts) k o) same
+        (first_like (λ v. Turns v (degree_at ps v)) (MoreRings ts) m early_torn late_whole o f)
 
   -- what each search that found nothing says together
-  module _ (es : List (Entry DirectedEdge)) (named : Clear (Misnamed n ts) (length ts)) (single : Clear (Doubled ts) (length ts)) (noted : Noted ts (length ts) es) (pairs : Clear (Unpaired ts) (length ts))
-      (cover : Clear (λ v. degree_at ps v ≡ 0) (length ps)) (late : Clear (λ v. Early es v (neighbour_at ps v) (degree_at ps v)) (length ps)) where
+  module _ (es : List (Option (Entry DirectedEdge))) (named : Clear (Misnamed n ts) (length ts)) (single : Clear (Doubled ts) (length ts)) (noted : Noted ts (length ts) es) (pairs : Clear (Unpaired ts) (length ts))
+      (cover : Clear (λ v. degree_at ps v ≡ 0) m) (late : Clear (λ v. Early es v (neighbour_at ps v) (degree_at ps v)) m) where
     pub nothing : (m q : ℕ) → Fault n ts m q → ⊥
     nothing = no_fault n ts named single pairs (first_bare None cover) (first_torn (clear_mesh n ts named single pairs) es noted cover None late)

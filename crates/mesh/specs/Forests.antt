@@ -1,5 +1,6 @@
 -- Parent pointers that never point upward, and what they stand for.
-use Rattle.std.specs.Prelude.{◌≡◌, ℕ, ◌<◌, ◌≤◌, Bool, cond, List, [], ◌∷◌, length, ◌==◌, nat_lt, slice_index_or}
+use Rattle.std.specs.Prelude.{◌≡◌, ℕ, ◌<◌, ◌≤◌, Bool, cond, List, [], ◌∷◌, length, ◌==◌, min, max, slice_index_or, count_by}
+use Rattle.std.specs.List.{enumerate_from}
 use Rattle.grid.specs.declared.geometry.Triangle.{Triangle}
 use Rattle.mesh.specs.declared.verdicts.VertexRecord.{VertexRecord}
 use Rattle.mesh.specs.VertexNotes.{no_record}
@@ -7,13 +8,9 @@ use Rattle.mesh.specs.VertexNotes.{no_record}
 abbrev pub parent_of : List VertexRecord → ℕ → ℕ
 parent_of ps x = (slice_index_or ps x no_record).parent
 
--- each of the first `n` is its own parent
-pub record Own (ps : List VertexRecord) (n : ℕ) : Type 0 where
-  pub own : (x : ℕ) → x < n → parent_of ps x ≡ x
-
--- no parent is above its child
-pub record Lowered (ps : List VertexRecord) : Type 0 where
-  pub low : (x : ℕ) → x < length ps → parent_of ps x ≤ x
+-- how many are their own parents
+abbrev pub roots : List VertexRecord → ℕ
+roots ps = count_by (λ (q : ℕ × VertexRecord). q.1.parent == q.0) (enumerate_from 0 ps)
 
 -- `f x` is the vertex at which the way up from `x` ends
 pub record Forest (f : ℕ → ℕ) (ps : List VertexRecord) : Type 0 where
@@ -28,7 +25,7 @@ pub record Settled (f : ℕ → ℕ) : Type 0 where
 
 -- what stands for the group of `y`, after those of `p` and `q` became one, for which the smaller stands
 abbrev pub link : ℕ → ℕ → ℕ → ℕ
-link p q y = cond (nat_lt p q) (cond (y == q) p y) (cond (y == p) q y)
+link p q y = cond (y == max p q) (min p q) y
 
 abbrev pub merge : (ℕ → ℕ) → ℕ → ℕ → ℕ → ℕ
 merge f u v y = link (f u) (f v) (f y)

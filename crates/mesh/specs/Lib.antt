@@ -11,3 +11,4 @@ pub mod Counting
 pub mod EdgeTables
 pub mod VertexNotes
 pub mod Forests
+pub mod Texts

@@ -1,89 +1,84 @@
-ghost use Rattle.std.specs.Prelude.{◌≡◌, ℕ, ◌*◌, ◌<◌, ◌≤◌, length, is_some, IfNone, Decides};
+ghost use Rattle.std.specs.Prelude.{◌≡◌, ℕ, ◌*◌, ◌<◌, ◌≤◌, length, IfNone};
 ghost use Rattle.keymap.specs.Probe.{Sound};
 ghost use Rattle.keymap.specs.Frees.{free};
 ghost use Rattle.mesh.specs.Sides.{edge_ends, edge_hash};
 ghost use Rattle.mesh.specs.Triangles.{triangle_at, Apart};
 ghost use Rattle.mesh.specs.First.{First};
 ghost use Rattle.mesh.specs.Faults.{Doubled, Unpaired};
-ghost use Rattle.mesh.specs.EdgeTables.{found, Seen, Missed, Noted, Noting};
+ghost use Rattle.mesh.specs.EdgeTables.{found, seen as seen_in, missed as missed_in, Noted, Noting};
 
-use crate::sides::DirectedEdge;
+use crate::sides::{DirectedEdge, directed_edges};
 use grid::Triangle;
-use keymap::{Entry, Full, clear_all, number_of, store};
+use keymap::{Full, KeyMap};
 
-// The vertex that is held for the directed edge from `from` to `to`.
-pub(crate) fn third(entries: &[Entry<DirectedEdge>], from: u32, to: u32) -> Option<u32>
-    ensures { result ≡ found entries.now from to }
+// The vertex that is held for a directed edge: the one that follows it in its triangle.
+pub(crate) fn third(map: &KeyMap<'_, DirectedEdge>, edge: DirectedEdge) -> Option<u32>
+    ensures { result ≡ found map.now.entries.now edge.from edge.to }
 {
-    number_of(entries, &DirectedEdge { from, to })
+    map.get(&edge)
 }
 
-// Has `entries` hold the vertex `third` for `edge`.
-fn note(entries: &mut [Entry<DirectedEdge>], edge: DirectedEdge, third: u32)
-    requires sound { Sound edge_ends edge_hash entries.old }
-    requires room { 0 < free entries.old }
-    ensures { Noting entries.old entries.new edge third }
+// Has `map` hold the vertex `third` for `edge`.
+fn note(map: &mut KeyMap<'_, DirectedEdge>, edge: DirectedEdge, third: u32)
+    requires sound { Sound edge_ends edge_hash map.old.entries.now }
+    requires room { 0 < free map.old.entries.now }
+    ensures { Noting map.old.entries.now map.new.entries.now edge third }
 {
-    match store(entries, edge, third) {
+    match map.insert(edge, third) {
         Ok(()) => {}
         Err(Full) => unreachable(),
     }
 }
 
 // Whether one of the directed edges of `t` is held.
-fn seen(entries: &[Entry<DirectedEdge>], t: Triangle<u32>) -> bool
-    ensures { Decides result (Seen entries.now t) }
+fn seen(map: &KeyMap<'_, DirectedEdge>, t: Triangle<u32>) -> bool
+    ensures { result ≡ seen_in map.now.entries.now t }
 {
-    third(entries, t.a, t.b).is_some()
-        || third(entries, t.b, t.c).is_some()
-        || third(entries, t.c, t.a).is_some()
+    directed_edges(t)
+        .iter()
+        .any(|edge| third(map, *edge).is_some())
 }
 
-// The first triangle with a directed edge of an earlier one. If there is none, the table then holds every directed edge.
+// The first triangle with a directed edge of an earlier one. If there is none, the map then holds every directed edge.
 pub(crate) fn first_doubled(
     triangles: &[Triangle<u32>],
-    entries: &mut [Entry<DirectedEdge>],
+    map: &mut KeyMap<'_, DirectedEdge>,
 ) -> Option<usize>
     requires different { (k : ℕ) → k < length triangles.now → Apart (triangle_at triangles.now k) }
-    requires room { 3 * length triangles.now ≤ length entries.old }
+    requires room { 3 * length triangles.now ≤ length map.old.entries.now }
     ensures first { First (Doubled triangles.now) (length triangles.now) result }
-    ensures noted { IfNone result (Noted triangles.now (length triangles.now) entries.new) }
+    ensures noted { IfNone result (Noted triangles.now (length triangles.now) map.new.entries.now) }
 {
-    clear_all(entries);
-    for k in 0..triangles.len() {
-        let t = triangles[k];
-        if seen(entries, t) {
+    map.clear();
+    for (k, t) in triangles.iter().enumerate() {
+        if seen(map, *t) {
             return Some(k);
         }
-        note(entries, DirectedEdge { from: t.a, to: t.b }, t.c);
-        note(entries, DirectedEdge { from: t.b, to: t.c }, t.a);
-        note(entries, DirectedEdge { from: t.c, to: t.a }, t.b);
+        let [ab, bc, ca] = directed_edges(*t);
+        note(map, ab, t.c);
+        note(map, bc, t.a);
+        note(map, ca, t.b);
     }
     None
 }
 
 // Whether the reverse of one of the directed edges of `t` is not held.
-fn missed(entries: &[Entry<DirectedEdge>], t: Triangle<u32>) -> bool
-    ensures { Decides result (Missed entries.now t) }
+fn missed(map: &KeyMap<'_, DirectedEdge>, t: Triangle<u32>) -> bool
+    ensures { result ≡ missed_in map.now.entries.now t }
 {
-    third(entries, t.b, t.a).is_none()
-        || third(entries, t.c, t.b).is_none()
-        || third(entries, t.a, t.c).is_none()
+    directed_edges(t)
+        .iter()
+        .any(|edge| third(map, edge.reversed()).is_none())
 }
 
 // The first triangle with a directed edge that has no reverse.
 pub(crate) fn first_unpaired(
     triangles: &[Triangle<u32>],
-    entries: &[Entry<DirectedEdge>],
+    map: &KeyMap<'_, DirectedEdge>,
 ) -> Option<usize>
     requires different { (k : ℕ) → k < length triangles.now → Apart (triangle_at triangles.now k) }
-    requires noted { Noted triangles.now (length triangles.now) entries.now }
+    requires noted { Noted triangles.now (length triangles.now) map.now.entries.now }
     ensures { First (Unpaired triangles.now) (length triangles.now) result }
 {
-    for k in 0..triangles.len() {
-        if missed(entries, triangles[k]) {
-            return Some(k);
-        }
-    }
-    None
+    triangles.iter().position(|t| missed(map, *t))
 }

@@ -2,17 +2,17 @@ ghost use Rattle.std.specs.Prelude.{◌≡◌, ℕ, ◌*◌, ◌/◌, ◌^◌, �
 ghost use Rattle.refusal.specs.Refusals.{code};
 ghost use Rattle.mesh.specs.Surfaces.{Surface};
 ghost use Rattle.mesh.specs.MeshEdges.{OneEdgeCount};
-ghost use Rattle.mesh.specs.Parts.{OnePartCount};
+ghost use Rattle.mesh.specs.Parts.{Groups, OnePartCount};
 ghost use Rattle.mesh.specs.Verdicts.{report, room_refusal, Counted, Judged, Inspected, SoundForSurfaces};
 
 use crate::edges::{first_doubled, first_unpaired};
-use crate::names::first_misnamed;
+use crate::names::{NamedMesh, first_misnamed};
 use crate::parts::part_count;
-use crate::rings::{first_early, first_without, survey};
+use crate::rings::Survey;
 use crate::sides::DirectedEdge;
 use crate::verdicts::{Counts, Verdict, VertexRecord};
 use grid::Triangle;
-use keymap::Entry;
+use keymap::{Entry, KeyMap};
 use refusal::Refusal;
 
 // Whether the working tables are long enough.
@@ -50,51 +50,56 @@ fn euler_number(vertices: u32, edges: usize, triangles: usize) -> i64
     i64::from(vertices) - edges as i64 + triangles as i64
 }
 
-// The counts of a closed oriented surface, on one vertex for each record.
-fn surface_counts(triangles: &[Triangle<u32>], records: &mut [VertexRecord]) -> Counts
-    requires few { length records.old < 2 ^ 32 }
-    requires fits { 3 * length triangles.now < 2 ^ 64 }
-    requires surface { Surface (length records.old) triangles.now }
-    ensures { Counted (length records.old) triangles.now result }
+// The counts of a mesh that is a closed oriented surface of so many parts.
+fn surface_counts(mesh: NamedMesh<'_>, parts: u32) -> Counts
+    requires fits { 3 * length mesh.triangles.now < 2 ^ 64 }
+    requires surface { Surface mesh.vertices mesh.triangles.now }
+    requires parts { Groups mesh.triangles.now mesh.vertices parts }
+    ensures { Counted mesh.entry.vertices mesh.entry.triangles.now result }
 {
-    let vertices = records.len() as u32;
-    let edges = edge_count(triangles.len());
+    let edges = edge_count(mesh.triangles.len());
     Counts {
-        vertices,
+        vertices: mesh.vertices,
         edges,
-        triangles: triangles.len(),
-        euler: euler_number(vertices, edges, triangles.len()),
-        parts: part_count(triangles, records),
+        triangles: mesh.triangles.len(),
+        euler: euler_number(mesh.vertices, edges, mesh.triangles.len()),
+        parts,
     }
 }
 
-// The verdict on the triangles, on one vertex for each record.
+// The verdict on the triangles, on the vertices below `vertices`, with a record for each.
 fn judge(
+    vertices: u32,
     triangles: &[Triangle<u32>],
-    edges: &mut [Entry<DirectedEdge>],
+    edges: &mut [Option<Entry<DirectedEdge>>],
     records: &mut [VertexRecord],
 ) -> Verdict
-    requires few { length records.old < 2 ^ 32 }
+    requires size { length records.old ≡ vertices }
     requires room { 3 * length triangles.now ≤ length edges.old }
-    ensures { Judged (length records.old) triangles.now (report result).0 (report result).1 }
+    ensures { Judged vertices triangles.now (report result).0 (report result).1 }
 {
-    if let Some(k) = first_misnamed(records.len() as u32, triangles) {
+    if let Some(k) = first_misnamed(vertices, triangles) {
         return Verdict::Misnamed(k);
     }
-    if let Some(k) = first_doubled(triangles, edges) {
+    let mesh = NamedMesh {
+        vertices,
+        triangles,
+    };
+    let mut map = KeyMap::over(edges);
+    if let Some(k) = first_doubled(triangles, &mut map) {
         return Verdict::Doubled(k);
     }
-    if let Some(k) = first_unpaired(triangles, edges) {
+    if let Some(k) = first_unpaired(triangles, &map) {
         return Verdict::Unpaired(k);
     }
-    survey(triangles, records);
-    if let Some(v) = first_without(records) {
+    let survey = Survey::new(mesh, records);
+    if let Some(v) = survey.first_without() {
         return Verdict::Bare(v as u32);
     }
-    if let Some(v) = first_early(edges, records) {
+    if let Some(v) = survey.first_early(&map) {
         return Verdict::Torn(v as u32);
     }
-    Verdict::Sound(surface_counts(triangles, records))
+    Verdict::Sound(surface_counts(mesh, part_count(survey)))
 }
 
 // Inspects the mesh of these triangles on the vertices below `vertex_count`: the first fault that there is, at its lowest place, or the
@@ -103,7 +108,7 @@ fn judge(
 pub fn inspect(
     vertex_count: u32,
     triangles: &[Triangle<u32>],
-    edges: &mut [Entry<DirectedEdge>],
+    edges: &mut [Option<Entry<DirectedEdge>>],
     records: &mut [VertexRecord],
 ) -> Result<Verdict, Refusal>
     ensures answer { Inspected vertex_count triangles.now (length edges.old) (length records.old) result }
@@ -112,5 +117,10 @@ pub fn inspect(
     ensures determined { OneEdgeCount × OnePartCount }
 {
     check_room(vertex_count, triangles.len(), edges.len(), records.len())?;
-    Ok(judge(triangles, edges, &mut records[0..vertex_count as usize]))
+    Ok(judge(
+        vertex_count,
+        triangles,
+        edges,
+        &mut records[..vertex_count as usize],
+    ))
 }

@@ -1,6 +1,7 @@
 #![tactic(auto)]
 
 mod edges;
+mod groups;
 mod inspection;
 mod names;
 mod parts;

@@ -4,7 +4,7 @@ ghost use Rattle.mesh.specs.declared.records.Coordinates.{Coordinates};
 use grid::GridEdge;
 
 // A place, in ten-thousandths of the distance between two samples.
-#[derive(Clone, Copy, PartialEq, Eq, Debug)]
+#[derive(Clone, Copy, PartialEq, Eq, Debug, Default)]
 pub struct Coordinates {
     pub x: u32,
     pub y: u32,
@@ -12,7 +12,7 @@ pub struct Coordinates {
 }
 
 // A vertex of a skin: the grid edge that carries it, and where it lies.
-#[derive(Clone, Copy, PartialEq, Eq, Debug)]
+#[derive(Clone, Copy, PartialEq, Eq, Debug, Default)]
 pub struct Vertex {
     pub edge: GridEdge,
     pub at: Coordinates,

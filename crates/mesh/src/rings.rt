@@ -1,25 +1,53 @@
-ghost use Rattle.std.specs.Prelude.{◌≡◌, ℕ, ◌+◌, ◌^◌, ◌<◌, ◌≤◌, length, Decides};
-ghost use Rattle.mesh.specs.Triangles.{triangle_at, Apart, Below};
+ghost use Rattle.std.specs.Prelude.{◌≡◌, ◌+◌, ◌^◌, ◌<◌, length, Decides};
 ghost use Rattle.mesh.specs.First.{First};
 ghost use Rattle.mesh.specs.EdgeTables.{turn, Early};
 ghost use Rattle.mesh.specs.VertexNotes.{degree_at, neighbour_at, Tallied, Surveyed};
 
 use crate::edges::third;
+use crate::names::NamedMesh;
 use crate::sides::DirectedEdge;
 use crate::verdicts::VertexRecord;
-use grid::Triangle;
-use keymap::Entry;
+use keymap::KeyMap;
 
-// Notes no triangle of any vertex.
-fn clear_records(records: &mut [VertexRecord])
-    ensures { (v : ℕ) → v < length records.new → degree_at records.new v ≡ 0 }
-{
-    for record in records.iter_mut() {
-        *record = VertexRecord {
-            parent: 0,
-            neighbour: 0,
-            degree: 0,
-        };
+// A mesh, and what is noted of its vertices, in a record for each.
+#[derive(Drop)]
+pub(crate) struct Survey<'a> {
+    pub mesh: NamedMesh<'a>,
+    pub records: &'a mut [VertexRecord],
+    ghost size: { length records.now ≡ mesh.vertices },
+}
+
+impl<'a> Survey<'a> {
+    // Notes of each vertex how many triangles it has, and a vertex that follows it in one of them.
+    #[tactic(auto, using(crate::proofs::Tallies::degree_le))]
+    pub fn new(mesh: NamedMesh<'a>, records: &'a mut [VertexRecord]) -> Survey<'a>
+        requires { length records.old ≡ mesh.vertices }
+        ensures mesh { result.mesh ≡ mesh.entry }
+        ensures noted { Surveyed mesh.entry.triangles.now (length mesh.entry.triangles.now) result.records.now }
+    {
+        records.fill(VertexRecord::default());
+        for t in mesh.triangles {
+            tally(records, t.a, t.b);
+            tally(records, t.b, t.c);
+            tally(records, t.c, t.a);
+        }
+        Survey { mesh, records }
+    }
+
+    // The first vertex of which no triangle is noted.
+    pub fn first_without(&self) -> Option<usize>
+        ensures { First (λ v. degree_at self.now.records.now v ≡ 0) self.now.mesh.vertices result }
+    {
+        self.records.iter().position(|record| record.degree == 0)
+    }
+
+    // The first vertex round which turning comes back before its last triangle.
+    pub fn first_early(&self, map: &KeyMap<'_, DirectedEdge>) -> Option<usize>
+        ensures { First (λ v. Early map.now.entries.now v (neighbour_at self.now.records.now v) (degree_at self.now.records.now v)) self.now.mesh.vertices result }
+    {
+        (0..self.mesh.vertices).zip(self.records.iter()).position(|(v, record)| {
+            comes_back_early(map, v, record.neighbour, record.degree)
+        })
     }
 }
 
@@ -33,60 +61,16 @@ fn tally(records: &mut [VertexRecord], v: u32, neighbour: u32)
     records[v as usize].degree += 1;
 }
 
-// Notes of each vertex how many triangles it has, and a vertex that follows it in one of them.
-pub(crate) fn survey(triangles: &[Triangle<u32>], records: &mut [VertexRecord])
-    requires different { (k : ℕ) → k < length triangles.now → Apart (triangle_at triangles.now k) }
-    requires below { (k : ℕ) → k < length triangles.now → Below (length records.old) (triangle_at triangles.now k) }
-    ensures { Surveyed triangles.now (length triangles.now) records.new }
-{
-    clear_records(records);
-    for k in 0..triangles.len() {
-        let t = triangles[k];
-        tally(records, t.a, t.b);
-        tally(records, t.b, t.c);
-        tally(records, t.c, t.a);
-    }
-}
-
-// The first vertex of which no triangle is noted.
-pub(crate) fn first_without(records: &[VertexRecord]) -> Option<usize>
-    ensures { First (λ v. degree_at records.now v ≡ 0) (length records.now) result }
-{
-    for v in 0..records.len() {
-        if records[v].degree == 0 {
-            return Some(v);
-        }
-    }
-    None
-}
-
 // Whether turning round `v` from its neighbour `start` comes back there in fewer than `degree` turns.
-fn comes_back_early(entries: &[Entry<DirectedEdge>], v: u32, start: u32, degree: usize) -> bool
-    ensures { Decides result (Early entries.now v start degree) }
+fn comes_back_early(map: &KeyMap<'_, DirectedEdge>, v: u32, start: u32, degree: usize) -> bool
+    ensures { Decides result (Early map.now.entries.now v start degree) }
 {
     let mut at = start;
     for i in 1..degree {
-        at = third(entries, v, at).unwrap_or(0);
+        at = third(map, DirectedEdge { from: v, to: at }).unwrap_or(0);
         if at == start {
             return true;
         }
     }
     false
-}
-
-// The first vertex round which turning comes back before its last triangle.
-pub(crate) fn first_early(
-    entries: &[Entry<DirectedEdge>],
-    records: &[VertexRecord],
-) -> Option<usize>
-    requires { length records.now < 2 ^ 32 }
-    ensures { First (λ v. Early entries.now v (neighbour_at records.now v) (degree_at records.now v)) (length records.now) result }
-{
-    for v in 0..records.len() {
-        let record = records[v];
-        if comes_back_early(entries, v as u32, record.neighbour, record.degree) {
-            return Some(v);
-        }
-    }
-    None
 }

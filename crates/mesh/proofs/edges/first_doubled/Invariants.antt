@@ -8,5 +8,5 @@ use Rattle.mesh.proofs.edges.first_doubled.Given as goal
 abbrev pub invariant-loop-k : goal.invariant-loop-k
 invariant-loop-k l =
     Clear (Doubled l.triangles) l.k
-    × Noted l.triangles l.k l.entries
-    × (length l.initial.entries ≤ free l.entries + 3 * l.k)
+    × Noted l.triangles l.k l.map.entries.now
+    × (3 * length l.triangles ≤ free l.map.entries.now + 3 * l.k)

@@ -1,16 +1,20 @@
-use Rattle.std.proofs.Common.{refl, arith, below_more}
-use Rattle.std.proofs.lemmas.Bool.{false≢true}
+use Rattle.std.proofs.Common.{◌≡◌, rules}
+use Rattle.std.proofs.lemmas.Iterator.{YieldsList-from_slice}
+use Rattle.std.proofs.lemmas.Iterator.Search.{position_from_yields_List}
+use Rattle.std.specs.List.{position}
+use Rattle.mesh.specs.Triangles.{no_triangle}
+use Rattle.mesh.specs.Faults.{Unpaired}
+use Rattle.mesh.specs.EdgeTables.{missed}
+use Rattle.mesh.proofs.Firsts.{first_position}
 use Rattle.mesh.proofs.EdgeNotes.{missed_unpaired, unpaired_missed}
 use Rattle.mesh.proofs.edges.first_unpaired.Goals as goal
 
-pub returns-then-missed : goal.returns-then-missed
-returns-then-missed c =
-    (c.loop-k-test.true, missed_unpaired c.args.triangles.now c.args.entries.now c.requires.noted c.requires.different c.loop-k.k (c.if-missed.ensures.0 refl), c.loop-k.invariant)
-
-pub loop-k-preserved : goal.loop-k-preserved
-loop-k-preserved c =
-    below_more _ _ c.loop-k.invariant
-    (λ l. false≢true (c.if-missed.ensures.1 (unpaired_missed c.args.triangles.now c.args.entries.now c.requires.noted c.requires.different c.loop-k.k l)))
-
 pub returns : goal.returns
-returns c k h = c.loop-k.invariant k (omega arith)
+returns c =
+    let ts = c.args.triangles.now in
+    let es = c.args.map.now.entries.now in
+    let e : c.position.result ≡ position (missed es) ts =
+    position_from_yields_List (missed es) _ _ c.position.result c.position.ensures.ran (YieldsList-from_slice ts cc) (λ x b q k. search rules) in
+    rw e (first_position (missed es) (Unpaired ts) ts no_triangle
+    (λ k h. missed_unpaired ts es c.requires.noted c.requires.different k)
+    (λ k h. unpaired_missed ts es c.requires.noted c.requires.different k))

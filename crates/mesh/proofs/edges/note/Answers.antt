@@ -10,16 +10,16 @@ same_ends : (a b x y : ℕ) → a ∷ b ∷ [] ≡ x ∷ y ∷ [] → (a ≡ x) 
 same_ends a b x y e = (cc, cc)
 
 pub unreachable-requires : goal.unreachable-requires
-unreachable-requires c = omega (arith, free_crowded c.args.entries.now (c.in-Err.ensures.full refl))
+unreachable-requires c = omega (arith, free_crowded c.args.map.now.entries.now (c.in-Err.ensures.full refl))
 
 pub returns : goal.returns
 unfolding found
 returns c =
-    let es = c.args.entries.now in
-    let fs = c.store.new.entries in
+    let es = c.args.map.now.entries.now in
+    let fs = c.insert.new.self.entries.now in
     let edge = c.args.edge in
-    let m = c.store.ensures.maps c.requires.sound in
-    let fewer : free es ≤ free fs + 1 = rw c.store.ensures.entries (free_put es (slot edge_ends edge_hash es (edge_ends edge)) edge c.args.third) in
+    let m = c.insert.ensures.maps c.requires.sound in
+    let fewer : free es ≤ free fs + 1 = rw c.insert.ensures.entries (free_put es (slot edge_ends edge_hash es (edge_ends edge)) edge c.args.third) in
     let some : true ≡ is_some (slot edge_ends edge_hash es (edge_ends edge)) = c.in-Ok.ensures.answer in
     record {
       sound = m.sound;

@@ -6,8 +6,8 @@ use Rattle.mesh.proofs.inspection.surface_counts.Goals as goal
 pub returns : goal.returns
 returns c = record {
   vertices = refl;
-  edges = mesh_edges c.args.triangles.now (surface_mesh _ c.args.triangles.now c.requires.surface) _ c.edge_count-edges.ensures;
+  edges = mesh_edges c.args.mesh.triangles.now (surface_mesh _ c.args.mesh.triangles.now c.requires.surface) _ c.edge_count-edges.ensures;
   triangles = refl;
   euler = search rules;
-  parts = c.part_count.ensures;
+  parts = c.requires.parts;
 }

@@ -10,7 +10,7 @@ loop-i-init c = (refl, λ m p q e. omega arith)
 
 pub loop-i-preserved : goal.loop-i-preserved
 loop-i-preserved c =
-    let go : ℕ → ℕ = turn c.args.entries.now c.args.v in
+    let go : ℕ → ℕ = turn c.args.map.now.entries.now c.args.v in
     let i = c.loop-i.i in
     let s = c.args.start in
     let e : c.unwrap_or-at.result ≡ after go i s = search rules in (
