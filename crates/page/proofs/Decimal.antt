@@ -1,11 +1,11 @@
 -- What the decimal text of a number is made of.
-use Rattle.std.proofs.Common.{◌≡◌, ℕ, ◌+◌, ◌-◌, ◌/◌, ◌%◌, ◌^◌, ◌<◌, ◌≤◌, Bool, cond, List, [], ◌∷◌, ◌++◌, map, length, sym, refl, ap, ◌∙◌, ⊎_elim, arith, length-append}
-use lib.ListN.{length-map}
+use Rattle.std.proofs.Common.{◌≡◌, ℕ, ◌+◌, ◌-◌, ◌^◌, ◌<◌, ◌≤◌, Bool, cond, List, [], ◌∷◌, map, sym, refl, ap, ◌∙◌, ⊎_elim, arith}
 use Rattle.std.specs.List.{AllByRecursion as All}
+use Rattle.std.specs.Fmt.{decimal as printed}
 use Rattle.std.specs.Int.Digits.{digits_of, number_from_digits}
-use Rattle.std.proofs.lemmas.Int.Digits.{digits_of_step, length-digits_of-le, all_below_base_digits_of, number_digits_of}
+use Rattle.std.proofs.lemmas.Fmt.{decimal_digit, decimal-digits_of}
+use Rattle.std.proofs.lemmas.Int.Digits.{all_below_base_digits_of, number_digits_of}
 use Rattle.std.proofs.ByRecursion.{All-map, All-weaker}
-use Rattle.std.proofs.lemmas.List.{map_push}
 use Rattle.std.proofs.lemmas.Bool.{cases_eq, ne_eqb}
 use Rattle.page.specs.Text.{decimal}
 
@@ -20,40 +20,15 @@ decimal_some : (n : ℕ) → 0 < n → decimal n ≡ shown (digits_of 10 n)
 unfolding decimal
 decimal_some n h = ap (λ (b : Bool). cond b (48 ∷ []) (shown (digits_of 10 n))) (ne_eqb n 0 (λ e. omega arith))
 
-pub decimal_digit : (n : ℕ) → n < 10 → decimal n ≡ (48 + n) ∷ []
-decimal_digit n h = ⊎_elim zero' more (cases_eq n 0)
+-- std prints a number of 64 bits so
+pub decimal_printed : (n : ℕ) → n < 2 ^ 64 → printed n ≡ decimal n
+decimal_printed n h = ⊎_elim zero' more (cases_eq n 0)
   where
-    zero' : n ≡ 0 → decimal n ≡ (48 + n) ∷ []
-    zero' e = rw (e) decimal_none
+    zero' : n ≡ 0 → printed n ≡ decimal n
+    zero' e = rw (e, decimal_none) (decimal_digit 0 (omega arith))
 
-    more : (n ≡ 0 → ⊥) → decimal n ≡ (48 + n) ∷ []
-    more ne =
-        let z : n / 10 ≡ 0 = omega arith in
-        let r : n % 10 ≡ n = omega arith in
-        decimal_some n (omega arith) ∙ ap shown (digits_of_step 10 n (omega arith) (omega arith)) ∙ simp (z, r)
-
-pub decimal_step : (n : ℕ) → 10 ≤ n → decimal n ≡ decimal (n / 10) ++ ((48 + n % 10) ∷ [])
-decimal_step n h =
-    decimal_some n (omega arith)
-    ∙ ap shown (digits_of_step 10 n (omega arith) (omega arith))
-    ∙ map_push (λ d. 48 + d) (digits_of 10 (n / 10)) (n % 10)
-    ∙ ap (λ (ds : List ℕ). ds ++ ((48 + n % 10) ∷ [])) (sym (decimal_some (n / 10) (omega arith)))
-
-pub length_decimal_digit : (n : ℕ) → n < 10 → length (decimal n) ≡ 1
-length_decimal_digit n h = ap length (decimal_digit n h)
-
-pub length_decimal_step : (n : ℕ) → 10 ≤ n → length (decimal n) ≡ length (decimal (n / 10)) + 1
-length_decimal_step n h = ap length (decimal_step n h) ∙ length-append (decimal (n / 10)) _
-
--- a number below 10 ^ k has at most k digits
-pub length_decimal_le : (k n : ℕ) → 0 < k → n < 10 ^ k → length (decimal n) ≤ k
-length_decimal_le k n some small = ⊎_elim zero' more (cases_eq n 0)
-  where
-    zero' : n ≡ 0 → length (decimal n) ≤ k
-    zero' e = rw (e, decimal_none) (omega arith)
-
-    more : (n ≡ 0 → ⊥) → length (decimal n) ≤ k
-    more ne = rw (decimal_some n (omega arith), length-map (digits_of 10 n) (λ d. 48 + d)) (length-digits_of-le 10 k n (omega arith) small)
+    more : (n ≡ 0 → ⊥) → printed n ≡ decimal n
+    more ne = decimal-digits_of n (omega arith) h ∙ sym (decimal_some n (omega arith))
 
 -- a code of a digit
 abbrev pub Digit : ℕ → Type 0

@@ -9,8 +9,7 @@ use Rattle.refusal.specs.declared.refusals.Refusal.TheVariants.{LineCount}
 use Rattle.page.specs.Text.{Mesh, page}
 use Rattle.page.specs.Lines.{Line, line_refusal, stage_refusal}
 use Rattle.page.specs.Whole.{Outcome, unless, outcome, page_outcome, Shown}
-use Rattle.page.specs.declared.states.OpenForVertices.{OpenForVertices}
-use Rattle.page.specs.declared.states.OpenForFaces.{OpenForFaces}
+use Rattle.page.specs.declared.states.Open.{Open}
 use Rattle.page.proofs.Writes.{sets_append}
 use Rattle.page.proofs.Apart.{tells_apart}
 
@@ -138,9 +137,6 @@ kept_all {X} line xs start others i first now h kept before all r =
     subst (λ (ys : List X). Reached before all (start ++ flat_map (λ (x : X). (line x).text) ys) others now) (take_all i xs h)
     (subst (λ (ys : List X). Reached before all (text_to line xs start i) (map line ys ++ others) now) (drop_all i xs h) (kept before all r))
 
--- a page after some lines of a stage, where `text` stands in the buffer
-abbrev pub vertices_at : ℕ → ℕ → ℕ → List ℕ → OpenForVertices
-vertices_at v f written text = record { vertices = v; faces = f; written = written; free = length text }
-
-abbrev pub faces_at : ℕ → ℕ → ℕ → List ℕ → OpenForFaces
-faces_at v f written text = record { vertices = v; faces = f; written = written; free = length text }
+-- a page for v vertices and f faces after some lines of a stage, where `text` stands in the buffer
+abbrev pub page_at : {X : Type 0} → (v f written : ℕ) → List ℕ → Open X
+page_at v f written text = record { vertices = v; faces = f; written = written; free = length text; stage = record {} }

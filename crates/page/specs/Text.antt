@@ -29,19 +29,6 @@ face_line f = (51 ∷ 32 ∷ []) ++ decimal f.a ++ (32 ∷ []) ++ decimal f.b ++
 unfoldable pub header : ℕ → ℕ → List ℕ
 header v f = (79 ∷ 70 ∷ 70 ∷ 10 ∷ []) ++ decimal v ++ (32 ∷ []) ++ decimal f ++ (32 ∷ 48 ∷ 10 ∷ [])
 
--- how long these are, part by part
-abbrev pub coordinate_room : ℕ → ℕ
-coordinate_room n = length (decimal (n / 10000)) + 5
-
-abbrev pub vertex_room : Coordinates → ℕ
-vertex_room v = coordinate_room v.x + coordinate_room v.y + coordinate_room v.z + 3
-
-abbrev pub face_room : Triangle ℕ → ℕ
-face_room f = length (decimal f.a) + length (decimal f.b) + length (decimal f.c) + 5
-
-abbrev pub header_room : ℕ → ℕ → ℕ
-header_room v f = length (decimal v) + length (decimal f) + 8
-
 -- where the vertices of a mesh lie, and its triangles
 pub record Mesh : Type 0 where
   pub vertices : List Coordinates

@@ -1,129 +1,120 @@
-ghost use Rattle.std.specs.Prelude.{◌≡◌, ◌+◌, ◌<◌, ◌≤◌, [], ◌∷◌, length};
+ghost use Rattle.std.specs.Prelude.{◌≡◌, ℕ, ◌+◌, ◌≤◌, List, [], ◌∷◌, ◌++◌};
+ghost use Rattle.arrayvec.specs.ArrayVec.{array_vec_len};
 ghost use Rattle.page.specs.Text.{decimal, coordinate, vertex_line, face_line, header};
-ghost use Rattle.page.specs.Text.{coordinate_room, vertex_room, face_room, header_room};
-ghost use Rattle.page.specs.Wrote.{Wrote};
 
+use arrayvec::ArrayVec;
 use grid::Triangle;
+use itoa::Buffer;
 use mesh::Coordinates;
 
-// How many digits a number has.
-fn number_width(n: u64) -> usize
-    ensures { (result ≡ length (decimal n)) × (result ≤ 20) }
+// The text of a line. The longest, of three coordinates of 25 bytes, takes 78.
+pub type Text = ArrayVec<u8, 80>;
+
+// Appends a number in decimal.
+#[tactic(auto, using(crate::proofs::Decimal::decimal_printed))]
+fn push_number(text: &mut Text, n: u64)
+    requires { array_vec_len text.old ≤ 60 }
+    ensures text { text.new.items ≡ text.old.items ++ decimal n }
+    ensures long { array_vec_len text.new ≤ array_vec_len text.old + 20 }
 {
-    if n < 10 { 1 } else { number_width(n / 10) + 1 }
+    let mut digits = Buffer::new();
+    text.try_extend_from_slice(digits.format(n).as_bytes())
+        .unwrap();
 }
 
-// Writes one byte, and answers the next place.
-fn put_byte(out: &mut [u8], at: usize, byte: u8) -> usize
-    requires { at < length out.old }
-    ensures { Wrote out.old at (byte ∷ []) out.new result }
+// Appends a number of ten-thousandths.
+#[tactic(auto, unfolding(crate::specs::Text::coordinate))]
+fn push_coordinate(text: &mut Text, n: u32)
+    requires { array_vec_len text.old ≤ 55 }
+    ensures text { text.new.items ≡ text.old.items ++ coordinate n }
+    ensures long { array_vec_len text.new ≤ array_vec_len text.old + 25 }
 {
-    out[at] = byte;
-    at + 1
+    push_number(text, u64::from(n / 10_000));
+    text.push(b'.');
+    text.push(b'0' + (n / 1000 % 10) as u8);
+    text.push(b'0' + (n / 100 % 10) as u8);
+    text.push(b'0' + (n / 10 % 10) as u8);
+    text.push(b'0' + (n % 10) as u8);
 }
 
-// Writes a number in decimal.
-fn put_number(out: &mut [u8], at: usize, n: u64) -> usize
-    requires { at + length (decimal n) ≤ length out.old }
-    ensures { Wrote out.old at (decimal n) out.new result }
+// The first two lines of a page for so many vertices and faces.
+#[tactic(auto, unfolding(crate::specs::Text::header))]
+pub fn heading(vertices: u64, faces: u64) -> Text
+    ensures { result.items ≡ header vertices faces }
 {
-    if n < 10 {
-        put_byte(out, at, b'0' + n as u8)
-    } else {
-        let last = put_number(out, at, n / 10);
-        put_byte(out, last, b'0' + (n % 10) as u8)
+    let mut text = Text::new();
+    text.push(b'O');
+    text.push(b'F');
+    text.push(b'F');
+    text.push(b'\n');
+    push_number(&mut text, vertices);
+    text.push(b' ');
+    push_number(&mut text, faces);
+    text.push(b' ');
+    text.push(b'0');
+    text.push(b'\n');
+    text
+}
+
+// What a line of a page shows.
+pub trait Line: Copy {
+    // Its numbers.
+    ghost numbers: { Self → List ℕ };
+
+    // Its text.
+    ghost text: { Self → List ℕ };
+
+    fn numbers(self) -> [u32; 3]
+        ensures { result ≡ numbers self };
+
+    fn text(self) -> Text
+        ensures { result.items ≡ text self };
+}
+
+// A vertex line.
+impl Line for Coordinates {
+    ghost numbers = { λ v. v.x ∷ v.y ∷ v.z ∷ [] };
+
+    ghost text = { vertex_line };
+
+    fn numbers(self) -> [u32; 3] {
+        [self.x, self.y, self.z]
+    }
+
+    #[tactic(auto, unfolding(crate::specs::Text::vertex_line))]
+    fn text(self) -> Text {
+        let mut text = Text::new();
+        push_coordinate(&mut text, self.x);
+        text.push(b' ');
+        push_coordinate(&mut text, self.y);
+        text.push(b' ');
+        push_coordinate(&mut text, self.z);
+        text.push(b'\n');
+        text
     }
 }
 
-// How many bytes a coordinate takes.
-fn coordinate_width(n: u32) -> usize
-    ensures { (result ≡ coordinate_room n) × (result ≤ 25) }
-{
-    number_width((n / 10_000) as u64) + 5
-}
+// A face line.
+impl Line for Triangle<u32> {
+    ghost numbers = { λ f. f.a ∷ f.b ∷ f.c ∷ [] };
 
-// Writes a number of ten-thousandths.
-fn put_coordinate(out: &mut [u8], at: usize, n: u32) -> usize
-    requires { at + coordinate_room n ≤ length out.old }
-    ensures wrote { Wrote out.old at (coordinate n) out.new result }
-    ensures stops { result ≡ at + coordinate_room n }
-{
-    let point = put_number(out, at, (n / 10_000) as u64);
-    let a = put_byte(out, point, b'.');
-    let b = put_byte(out, a, b'0' + (n / 1000 % 10) as u8);
-    let c = put_byte(out, b, b'0' + (n / 100 % 10) as u8);
-    let d = put_byte(out, c, b'0' + (n / 10 % 10) as u8);
-    put_byte(out, d, b'0' + (n % 10) as u8)
-}
+    ghost text = { face_line };
 
-// How many bytes a vertex line takes.
-pub fn vertex_width(at: Coordinates) -> usize
-    ensures room { result ≡ vertex_room at }
-    ensures long { result ≡ length (vertex_line at) }
-    ensures small { result ≤ 80 }
-{
-    coordinate_width(at.x) + coordinate_width(at.y) + coordinate_width(at.z) + 3
-}
+    fn numbers(self) -> [u32; 3] {
+        [self.a, self.b, self.c]
+    }
 
-// Writes a vertex line at the start of a part of the buffer.
-pub fn put_vertex(line: &mut [u8], at: Coordinates) -> usize
-    requires { vertex_room at ≤ length line.old }
-    ensures { Wrote line.old 0 (vertex_line at) line.new result }
-{
-    let a = put_coordinate(line, 0, at.x);
-    let b = put_byte(line, a, b' ');
-    let c = put_coordinate(line, b, at.y);
-    let d = put_byte(line, c, b' ');
-    let e = put_coordinate(line, d, at.z);
-    put_byte(line, e, b'\n')
-}
-
-// How many bytes a face line takes.
-pub fn face_width(face: Triangle<u32>) -> usize
-    ensures room { result ≡ face_room face }
-    ensures long { result ≡ length (face_line face) }
-    ensures small { result ≤ 80 }
-{
-    number_width(face.a as u64) + number_width(face.b as u64) + number_width(face.c as u64) + 5
-}
-
-// Writes a face line at the start of a part of the buffer.
-pub fn put_face(line: &mut [u8], face: Triangle<u32>) -> usize
-    requires { face_room face ≤ length line.old }
-    ensures { Wrote line.old 0 (face_line face) line.new result }
-{
-    let three = put_byte(line, 0, b'3');
-    let a = put_byte(line, three, b' ');
-    let b = put_number(line, a, face.a as u64);
-    let c = put_byte(line, b, b' ');
-    let d = put_number(line, c, face.b as u64);
-    let e = put_byte(line, d, b' ');
-    let f = put_number(line, e, face.c as u64);
-    put_byte(line, f, b'\n')
-}
-
-// How many bytes the first two lines take.
-pub fn header_width(vertices: u64, faces: u64) -> usize
-    ensures room { result ≡ header_room vertices faces }
-    ensures long { result ≡ length (header vertices faces) }
-    ensures small { result ≤ 80 }
-{
-    number_width(vertices) + number_width(faces) + 8
-}
-
-// Writes the first two lines.
-pub fn put_header(line: &mut [u8], vertices: u64, faces: u64) -> usize
-    requires { header_room vertices faces ≤ length line.old }
-    ensures { Wrote line.old 0 (header vertices faces) line.new result }
-{
-    let a = put_byte(line, 0, b'O');
-    let b = put_byte(line, a, b'F');
-    let c = put_byte(line, b, b'F');
-    let d = put_byte(line, c, b'\n');
-    let e = put_number(line, d, vertices);
-    let f = put_byte(line, e, b' ');
-    let g = put_number(line, f, faces);
-    let h = put_byte(line, g, b' ');
-    let i = put_byte(line, h, b'0');
-    put_byte(line, i, b'\n')
+    #[tactic(auto, unfolding(crate::specs::Text::face_line))]
+    fn text(self) -> Text {
+        let mut text = Text::new();
+        text.push(b'3');
+        text.push(b' ');
+        push_number(&mut text, u64::from(self.a));
+        text.push(b' ');
+        push_number(&mut text, u64::from(self.b));
+        text.push(b' ');
+        push_number(&mut text, u64::from(self.c));
+        text.push(b'\n');
+        text
+    }
 }
