@@ -1,26 +1,12 @@
--- The eight corners of a cell: which of them are inside, told one by one, or at once where a table has them all. Assumes nothing.
-use Rattle.std.proofs.Common.{◌≡◌, ℕ, ◌+◌, ◌-◌, ◌*◌, ◌<◌, ◌≤◌, Bool, true, cond, ◌&&◌, List, [], ◌∷◌, ◌++◌, map, length, get_or, take, set, None, Option, sym, ap, ◌∙◌, mul_assoc, mul-add, arith, length-set}
-use Rattle.std.proofs.lemmas.List.{take_more_set, map_more, take_all}
+-- The eight corners of a cell, told at once where a table has them all. Assumes nothing.
+use Rattle.std.proofs.Common.{◌≡◌, ℕ, ◌+◌, ◌-◌, ◌*◌, ◌≤◌, Bool, true, cond, ◌&&◌, List, [], ◌∷◌, map, get_or, None, Option, sym, ap, ◌∙◌, mul_assoc, mul-add, arith}
 use Rattle.std.proofs.lemmas.Bool.{le-leb}
 use Rattle.grid.specs.declared.geometry.Point.{Point}
 use Rattle.grid.specs.Points.{Sides, ◌⊕◌, offset, sampled}
-use Rattle.grid.specs.Patterns.{codes, corner_flags}
-use Rattle.grid.proofs.Patterns.{code_at}
+use Rattle.grid.specs.Patterns.{corner_flags}
 use Rattle.volume.specs.Blocks.{Inner, entry_inside, block}
 use Rattle.volume.specs.Insides.{answer_inside, inside_at}
 use Rattle.volume.specs.Volumes.{table_place, table_sample, entry_sample}
-
--- the first i of eight flags are those of the corners
-abbrev pub Filled : (ℕ → Bool) → List Bool → ℕ → Type 0
-Filled f all i = (length all ≡ 8) × (take i all ≡ map f (take i codes))
-
-pub filled_more : (f : ℕ → Bool) (all : List Bool) (i : ℕ) (b : Bool) → i < 8 → Filled f all i → b ≡ f i → Filled f (set all i b) (i + 1)
-filled_more f all i b h inv e =
-    let d : b ≡ f (get_or codes i 0) = e ∙ ap f (sym (code_at i h)) in
-    (length-set all i b ∙ inv.0, take_more_set all i b (omega (arith, inv.0)) ∙ (λ j. inv.1 j ++ (d j ∷ [])) ∙ sym (map_more f codes i 0 h))
-
-pub filled_all : (f : ℕ → Bool) (all : List Bool) (i : ℕ) → 8 ≤ i → Filled f all i → all ≡ map f codes
-filled_all f all i h inv = sym (take_all i all (omega (arith, inv.0))) ∙ inv.1 ∙ ap (map f) (take_all i codes h)
 
 abbrev step : ℕ → ℕ → ℕ → Point
 step x y z = record { x = x; y = y; z = z }

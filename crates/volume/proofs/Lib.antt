@@ -1,5 +1,3 @@
-pub mod Stored
+mod Stored
 mod Corners
-mod ShortTables
 mod Runs
-pub mod Exact

@@ -33,12 +33,16 @@ density_level b = word b 4
 abbrev pub label_level : List ℕ → ℕ
 label_level b = slice_index b 4
 
+-- the first n numbers after the level, where each takes `width` bytes, and `number` is what begins at a place
+abbrev pub run : {X : Type 0} → ℕ → (List ℕ → ℕ → X) → List ℕ → ℕ → List (Option X)
+run width number b n = map (λ i. Some (number b (4 + width * (1 + i)))) (range_with_len 0 n)
+
 -- the first n samples: a density takes two bytes, and a label one
 abbrev pub density_run : List ℕ → ℕ → List (Option ℕ)
-density_run b n = map (λ i. Some (word b (6 + 2 * i))) (range_with_len 0 n)
+density_run = run 2 word
 
 abbrev pub label_run : List ℕ → ℕ → List (Option ℕ)
-label_run b n = map (λ i. Some (slice_index b (5 + i))) (range_with_len 0 n)
+label_run = run 1 slice_index
 
 -- every sample, in table order
 abbrev pub density_samples : List ℕ → List (Option ℕ)

@@ -3,6 +3,7 @@ use Rattle.std.specs.Prelude.{◌≡◌, ℕ, ◌+◌, ◌-◌, ◌*◌, ◌^◌
 use Rattle.std.proofs.lemmas.Bool.{leb-true, ltb-true, and_parts}
 use Rattle.refusal.specs.declared.refusals.Refusal.{Refusal}
 use Rattle.refusal.specs.declared.refusals.Refusal.TheVariants.{RatioPart}
+use Rattle.refusal.specs.declared.refusals.Part.TheVariants.{Numerator, Denominator}
 use Rattle.volume.specs.declared.fractions.Fraction.{Fraction}
 use Rattle.volume.specs.declared.samples.Density.{Density}
 use Rattle.volume.specs.declared.samples.Label.{Label}
@@ -42,7 +43,7 @@ parts n d = record { n = n; d = d }
 
 -- why two numbers are refused as a ratio: the first part that is above 4,095, or 0 below the line
 abbrev pub ratio_refusal : RatioParts → Option Refusal
-ratio_refusal p = cond (nat_le p.n 4095) (cond (nat_le 1 p.d && nat_le p.d 4095) None (Some (RatioPart 1))) (Some (RatioPart 0))
+ratio_refusal p = cond (nat_le p.n 4095) (cond (nat_le 1 p.d && nat_le p.d 4095) None (Some (RatioPart Denominator))) (Some (RatioPart Numerator))
 
 -- by how much n/d is above the level p/q, n·q - p·d, where it is above, and by how much below, p·d - n·q, where it is below
 abbrev pub over : Ratio → Ratio → ℕ

@@ -1,5 +1,6 @@
 pub mod Blocks
 pub mod Borders
+pub mod FileKinds
 pub mod Files
 pub mod Insides
 pub mod Kinds

@@ -1,16 +1,18 @@
 ghost use Rattle.volume.specs.Kinds.{density_inside, density_crossing, density_stored};
 ghost use Rattle.std.specs.Prelude.{◌≡◌, Some};
-ghost use Rattle.std.proofs.Common.{rules, arith};
+ghost use Rattle.std.proofs.Common.{rules};
 
 use crate::fractions::Fraction;
 use crate::kinds::SampleKind;
 use crate::samples::Density;
 
 // The density of a number.
-pub(crate) fn density_of(value: u16) -> Density
-    ensures { density_stored value ≡ Some result }
-{
-    Density { value }
+impl From<u16> for Density {
+    ghost from_gives = { λ value d. density_stored value ≡ Some d };
+
+    fn from(value: u16) -> Density {
+        Density { value }
+    }
 }
 
 impl SampleKind for Density {
@@ -24,7 +26,7 @@ impl SampleKind for Density {
 
     ghost stored = { density_stored };
 
-    ghost proper = { first_of (Prim.search rules, Prim.grind (arith, Self.row.coded.inj)) };
+    ghost proper = { Prim.search rules };
 
     fn is_inside(&self, level: &u16) -> bool {
         self.value >= *level
@@ -38,6 +40,6 @@ impl SampleKind for Density {
     }
 
     fn load(entry: &u16) -> Option<Density> {
-        Some(density_of(*entry))
+        Some(Density::from(*entry))
     }
 }

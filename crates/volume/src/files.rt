@@ -1,8 +1,10 @@
-ghost use Rattle.std.specs.Prelude.{◌≡◌, ℕ, ◌+◌, ◌*◌, ◌^◌, ◌<◌, ◌≤◌, length, Some, None, MatchResult};
+ghost use Rattle.std.specs.Prelude.{◌≡◌, ℕ, ◌+◌, ◌^◌, ◌<◌, ◌≤◌, map, length, Some, None, IfOk, MatchResult};
 ghost use Rattle.std.proofs.lemmas.List.Edits.{sets};
 ghost use Rattle.grid.specs.Shapes.{sides};
-ghost use Rattle.volume.specs.Files.{sample_count, word, file_sides, length_due, body_refusal, file_refusal, density_run, label_run, Held};
+ghost use Rattle.volume.specs.Files.{sample_count, file_sides, length_due, body_refusal, file_refusal, run, Held};
 
+use crate::file_samples::FileSample;
+use crate::numbers::FileNumber;
 use grid::Shape;
 use refusal::Refusal;
 
@@ -21,19 +23,12 @@ fn sample_count(shape: Shape) -> usize
     usize::from(shape.nx) * (usize::from(shape.ny) * usize::from(shape.nz))
 }
 
-// The number in the two bytes from `at` on, the low one first.
-fn word_at(bytes: &[u8], at: usize) -> u16
-    requires { at + 1 < length bytes.now }
-    ensures { result ≡ word bytes.now at }
-{
-    u16::from(bytes[at]) + 256 * u16::from(bytes[at + 1])
-}
-
 // The shape that a file whose samples take `width` bytes tells, if it is as long as is due and its samples fit `room` entries.
 fn read_shape(bytes: &[u8], width: usize, room: usize) -> Result<Shape, Refusal>
     requires four { 4 ≤ length bytes.now }
     requires narrow { width ≤ 2 }
-    ensures { MatchResult result (λ s. (body_refusal bytes.now width room ≡ None) × (sides s ≡ file_sides bytes.now)) (λ e. body_refusal bytes.now width room ≡ Some e) }
+    ensures answer { MatchResult result (λ s. (body_refusal bytes.now width room ≡ None) × (sides s ≡ file_sides bytes.now)) (λ e. body_refusal bytes.now width room ≡ Some e) }
+    ensures fits { IfOk result (λ s. (length bytes.now ≡ length_due width (sides s)) × (sample_count (sides s) ≤ room)) }
 {
     let shape = Shape::new(
         u64::from(bytes[1]),
@@ -51,26 +46,30 @@ fn read_shape(bytes: &[u8], width: usize, room: usize) -> Result<Shape, Refusal>
     Ok(shape)
 }
 
-// Puts the first `count` densities of a file at the start of the table.
-fn read_densities(bytes: &[u8], count: usize, table: &mut [Option<u16>])
-    requires long { 6 + 2 * count ≤ length bytes.now }
-    requires room { count ≤ length table.old }
-    ensures { table.new ≡ sets table.old 0 (density_run bytes.now count) }
+// Puts numbers at the start of a table.
+fn fill<const WIDTH: usize, N: FileNumber<WIDTH>>(table: &mut [Option<N>], numbers: &[[u8; WIDTH]])
+    requires { length numbers.now ≤ length table.old }
+    ensures { table.new ≡ sets table.old 0 (map (λ b. Some (N.FileNumber.number b 0)) numbers.now) }
 {
-    for i in 0..count {
-        table[i] = Some(word_at(bytes, 6 + 2 * i));
+    for (i, bytes) in numbers.iter().enumerate() {
+        table[i] = Some(N::from_bytes(bytes));
     }
 }
 
-// Puts the first `count` labels of a file at the start of the table.
-fn read_labels(bytes: &[u8], count: usize, table: &mut [Option<u8>])
-    requires long { 5 + count ≤ length bytes.now }
-    requires room { count ≤ length table.old }
-    ensures { table.new ≡ sets table.old 0 (label_run bytes.now count) }
+// Reads a file whose numbers take WIDTH bytes: its shape and level, and its samples, which go to the start of the table.
+fn read_numbers<const WIDTH: usize, N: FileNumber<WIDTH>>(
+    bytes: &[u8],
+    table: &mut [Option<N>],
+) -> Result<(Shape, N), Refusal>
+    requires four { 4 ≤ length bytes.now }
+    requires some { 1 ≤ WIDTH }
+    requires narrow { WIDTH ≤ 2 }
+    ensures { MatchResult result (λ r. (body_refusal bytes.now WIDTH (length table.old) ≡ None) × (sides r.0 ≡ file_sides bytes.now) × (r.1 ≡ N.FileNumber.number bytes.now 4) × (table.new ≡ sets table.old 0 (run WIDTH N.FileNumber.number bytes.now (sample_count (file_sides bytes.now))))) (λ e. (body_refusal bytes.now WIDTH (length table.old) ≡ Some e) × (table.new ≡ table.old)) }
 {
-    for i in 0..count {
-        table[i] = Some(bytes[5 + i]);
-    }
+    let shape = read_shape(bytes, WIDTH, table.len())?;
+    let (numbers, _) = bytes[4..].as_chunks::<WIDTH>();
+    fill(table, &numbers[1..]);
+    Ok((shape, N::from_bytes(&numbers[0])))
 }
 
 // Reads a volume file: its samples go to the start of the table of its kind.
@@ -84,19 +83,14 @@ pub fn read_file(
     if bytes.len() < 4 {
         return Err(Refusal::FileLength(4));
     }
-    match bytes[0] {
-        1 => {
-            let shape = read_shape(bytes, 2, densities.len())?;
-            let level = word_at(bytes, 4);
-            read_densities(bytes, sample_count(shape), densities);
+    match FileSample::try_from(bytes[0])? {
+        FileSample::Density => {
+            let (shape, level) = read_numbers::<2, u16>(bytes, densities)?;
             Ok(FileHeader::Densities { shape, level })
         }
-        2 => {
-            let shape = read_shape(bytes, 1, labels.len())?;
-            let level = bytes[4];
-            read_labels(bytes, sample_count(shape), labels);
+        FileSample::Label => {
+            let (shape, level) = read_numbers::<1, u8>(bytes, labels)?;
             Ok(FileHeader::Labels { shape, level })
         }
-        _ => Err(Refusal::FileKind),
     }
 }

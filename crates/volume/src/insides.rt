@@ -1,37 +1,31 @@
-ghost use Rattle.std.specs.Prelude.{◌≡◌, ℕ, Bool, length};
+ghost use Rattle.std.specs.Prelude.{◌≡◌, Bool};
+ghost use Rattle.grid.specs.declared.geometry.Point.{Point};
 ghost use Rattle.grid.specs.Patterns.{corner_flags};
-ghost use Rattle.volume.specs.Insides.{answer_inside, inside_at, InsidesExact};
+ghost use Rattle.volume.specs.Insides.{answer_inside};
 
 use crate::kinds::SampleKind;
-use crate::volumes::Volume;
 use grid::{Cell, Point};
 
 // Whether an answer is inside: a sample is, or is not, and no sample is outside.
 pub fn answer_inside<K: SampleKind>(answer: Option<K>, level: &K::Level) -> bool
     ensures { result ≡ answer_inside K.SampleKind.inside level.now answer }
 {
-    match answer {
-        Some(sample) => sample.is_inside(level),
-        None => false,
-    }
+    answer.is_some_and(|sample| sample.is_inside(level))
 }
 
-// Whether a grid point is inside: it has a sample, and that is inside at the level.
-pub fn point_inside<V: Volume>(volume: &V, level: &<V::Kind as SampleKind>::Level, p: Point) -> bool
-    ensures value { result ≡ inside_at V.Kind.SampleKind.inside level.now (V.Volume.sample volume.now) p }
-    ensures exact { InsidesExact V.Kind.SampleKind.inside level.now (V.Volume.sample volume.now) }
+// What a question answers at the corners of a cell, by their codes.
+pub(crate) fn each_corner<F: Fn(Point) -> bool>(cell: Cell, asked: F) -> [bool; 8]
+    requires { F.IsAlwaysCallable asked }
+    ensures { (inside : Point → Bool) → ((p : Point) (b : Bool) → F.post asked p b → b ≡ inside p) → result ≡ corner_flags inside cell.base }
 {
-    answer_inside(volume.sample_at(p), level)
-}
-
-// Which corners of a cell are inside, by their codes.
-pub fn corners_inside<V: Volume>(
-    volume: &V,
-    level: &<V::Kind as SampleKind>::Level,
-    cell: Cell,
-) -> [bool; 8]
-    ensures value { result ≡ corner_flags (inside_at V.Kind.SampleKind.inside level.now (V.Volume.sample volume.now)) cell.base }
-    ensures eight { length result ≡ 8 }
-{
-    volume.corners_inside(level, cell)
+    [
+        asked(cell.corner(0)),
+        asked(cell.corner(1)),
+        asked(cell.corner(2)),
+        asked(cell.corner(3)),
+        asked(cell.corner(4)),
+        asked(cell.corner(5)),
+        asked(cell.corner(6)),
+        asked(cell.corner(7)),
+    ]
 }

@@ -1,9 +1,19 @@
 ghost use Rattle.volume.specs.Kinds.{label_inside, label_crossing, label_stored};
+ghost use Rattle.std.specs.Prelude.{◌≡◌, Some};
 ghost use Rattle.std.proofs.Common.{rules};
 
 use crate::fractions::Fraction;
 use crate::kinds::SampleKind;
 use crate::samples::Label;
+
+// The label of a number.
+impl From<u8> for Label {
+    ghost from_gives = { λ value l. label_stored value ≡ Some l };
+
+    fn from(value: u8) -> Label {
+        Label { value }
+    }
+}
 
 impl SampleKind for Label {
     type Level = u8;
@@ -27,6 +37,6 @@ impl SampleKind for Label {
     }
 
     fn load(entry: &u8) -> Option<Label> {
-        Some(Label { value: *entry })
+        Some(Label::from(*entry))
     }
 }

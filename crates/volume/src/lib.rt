@@ -1,11 +1,14 @@
 #![tactic(auto)]
 
 mod densities;
+mod file_samples;
 mod files;
 mod fractions;
 mod insides;
 mod kinds;
 mod labels;
+mod levels;
+mod numbers;
 mod phantoms;
 mod ratios;
 mod samples;
@@ -14,8 +17,9 @@ mod volumes;
 
 pub use files::{FileHeader, read_file};
 pub use fractions::Fraction;
-pub use insides::{answer_inside, corners_inside, point_inside};
+pub use insides::answer_inside;
 pub use kinds::SampleKind;
+pub use levels::AtLevel;
 pub use phantoms::Phantom;
 pub use samples::{Density, Label, Ratio, RatioParts};
 pub use tables::TableVolume;

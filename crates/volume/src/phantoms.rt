@@ -1,11 +1,11 @@
 ghost use Rattle.std.specs.Prelude.{◌≡◌, ℕ, ◌+◌, ◌-◌, ◌*◌, ◌≤◌, true};
+ghost use Rattle.std.proofs.Common.{rules};
 ghost use Rattle.grid.specs.Points.{sampled};
 ghost use Rattle.grid.specs.Shapes.{sides};
 ghost use Rattle.volume.specs.Volumes.{square_apart, squared_distance, phantom_sample};
 
-use crate::densities::density_of;
 use crate::samples::Density;
-use crate::volumes::{Volume, has_sample};
+use crate::volumes::Volume;
 use grid::{Point, Shape};
 
 // A ball of densities, whose centre is given in sample coordinates: the density falls with the squared distance from it.
@@ -43,15 +43,17 @@ impl Volume for Phantom {
 
     ghost sample = { phantom_sample };
 
+    ghost border = { Prim.search rules };
+
     fn shape(&self) -> Shape {
         self.shape
     }
 
     fn sample_at(&self, p: Point) -> Option<Density> {
-        if !has_sample(self.shape, p) {
+        if !self.shape.is_sampled(p) {
             return None;
         }
         let far = self.squared_distance(p);
-        Some(density_of((65535 - far.min(65535)) as u16))
+        Some(Density::from((65535 - far.min(65535)) as u16))
     }
 }

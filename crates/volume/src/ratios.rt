@@ -5,7 +5,7 @@ ghost use Rattle.volume.specs.Crossings.{ratio_proper};
 use crate::fractions::Fraction;
 use crate::kinds::SampleKind;
 use crate::samples::{Ratio, RatioParts};
-use refusal::Refusal;
+use refusal::{Part, Refusal};
 
 impl Ratio {
     // The ratio n/d, or which part cannot be one's.
@@ -13,19 +13,20 @@ impl Ratio {
         ensures { MatchResult result (λ v. (ratio_refusal (parts n d) ≡ None) × ((v.n ≡ n) × (v.d ≡ d)) × (ratio_stored (parts n d) ≡ Some v)) (λ e. ratio_refusal (parts n d) ≡ Some e) }
     {
         if n > 4095 {
-            return Err(Refusal::RatioPart(0));
+            return Err(Refusal::RatioPart(Part::Numerator));
         }
         if d == 0 || d > 4095 {
-            return Err(Refusal::RatioPart(1));
+            return Err(Refusal::RatioPart(Part::Denominator));
         }
         Ok(Ratio { n, d })
     }
-}
 
-fn product(a: u16, b: u16) -> u64
-    ensures { result ≡ a * b }
-{
-    u64::from(a) * u64::from(b)
+    // This ratio's upper part times the other's lower part: of two ratios, the larger has the larger one.
+    fn cross(&self, other: &Ratio) -> u64
+        ensures { result ≡ self.now.n * other.now.d }
+    {
+        u64::from(self.n) * u64::from(other.d)
+    }
 }
 
 impl SampleKind for Ratio {
@@ -42,12 +43,12 @@ impl SampleKind for Ratio {
     ghost proper = { λ a b h here there. ratio_proper a b h there };
 
     fn is_inside(&self, level: &Ratio) -> bool {
-        product(self.n, level.d) >= product(level.n, self.d)
+        self.cross(level) >= level.cross(self)
     }
 
     fn crossing_to(&self, outside: &Ratio, level: &Ratio) -> Fraction {
-        let over = product(self.n, level.d) - product(level.n, self.d);
-        let under = product(level.n, outside.d) - product(outside.n, level.d);
+        let over = self.cross(level) - level.cross(self);
+        let under = level.cross(outside) - outside.cross(level);
         let num = over * u64::from(outside.d);
         Fraction {
             num,
@@ -56,9 +57,6 @@ impl SampleKind for Ratio {
     }
 
     fn load(entry: &RatioParts) -> Option<Ratio> {
-        match Ratio::new(entry.n, entry.d) {
-            Ok(ratio) => Some(ratio),
-            Err(_) => None,
-        }
+        Ratio::new(entry.n, entry.d).ok()
     }
 }

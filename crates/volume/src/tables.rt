@@ -1,12 +1,13 @@
 ghost use Rattle.std.specs.Prelude.{◌≡◌, ℕ, ◌+◌, ◌<◌, true, map, length, None, slice_index_or};
+ghost use Rattle.std.proofs.Common.{rules};
 ghost use Rattle.grid.specs.Points.{sampled};
 ghost use Rattle.grid.specs.Shapes.{sides};
-ghost use Rattle.volume.specs.Volumes.{table_place, table_sample};
+ghost use Rattle.volume.specs.Volumes.{table_place, entry_sample, table_sample};
 ghost use Rattle.volume.specs.Blocks.{Inner, entry_inside, block};
 
-use crate::insides::answer_inside;
+use crate::insides::{answer_inside, each_corner};
 use crate::kinds::SampleKind;
-use crate::volumes::{Volume, has_sample};
+use crate::volumes::Volume;
 use grid::{Cell, Point, Shape};
 
 // The samples of a given table: x runs first, then y, then z.
@@ -41,14 +42,11 @@ fn is_inner(shape: Shape, base: Point) -> bool
         && base.z < shape.nz
 }
 
-// Whether an entry is inside.
-fn entry_inside<K: SampleKind>(entry: &Option<K::Entry>, level: &K::Level) -> bool
-    ensures { result ≡ entry_inside K.SampleKind.stored K.SampleKind.inside level.now entry.now }
+// The sample that an entry stands for, if it is there and stands for one.
+fn sample_of<K: SampleKind>(entry: &Option<K::Entry>) -> Option<K>
+    ensures { result ≡ entry_sample K.SampleKind.stored entry.now }
 {
-    match entry {
-        Some(found) => answer_inside(K::load(found), level),
-        None => false,
-    }
+    entry.as_ref().and_then(|found| K::load(found))
 }
 
 // Which of eight entries are inside: from `at` on two in x, and the same one row and one layer further.
@@ -65,15 +63,16 @@ fn block_inside<K: SampleKind>(
     let next = at + row;
     let above = at + layer;
     let last = above + row;
+    let inside = |i: usize| answer_inside(sample_of::<K>(&entries[i]), level);
     [
-        entry_inside::<K>(&entries[at], level),
-        entry_inside::<K>(&entries[at + 1], level),
-        entry_inside::<K>(&entries[next], level),
-        entry_inside::<K>(&entries[next + 1], level),
-        entry_inside::<K>(&entries[above], level),
-        entry_inside::<K>(&entries[above + 1], level),
-        entry_inside::<K>(&entries[last], level),
-        entry_inside::<K>(&entries[last + 1], level),
+        inside(at),
+        inside(at + 1),
+        inside(next),
+        inside(next + 1),
+        inside(above),
+        inside(above + 1),
+        inside(last),
+        inside(last + 1),
     ]
 }
 
@@ -84,22 +83,18 @@ impl<K: SampleKind> Volume for TableVolume<'_, K> {
 
     ghost sample = { λ v p. table_sample K.SampleKind.stored (sides v.shape) v.entries.now p };
 
+    ghost border = { Prim.search rules };
+
     fn shape(&self) -> Shape {
         self.shape
     }
 
     fn sample_at(&self, p: Point) -> Option<K> {
-        if !has_sample(self.shape, p) {
+        if !self.shape.is_sampled(p) {
             return None;
         }
         let i = place(self.shape, p);
-        if i >= self.entries.len() {
-            return None;
-        }
-        match &self.entries[i] {
-            Some(entry) => K::load(entry),
-            None => None,
-        }
+        sample_of::<K>(self.entries.get(i)?)
     }
 
     // A cell within the block of samples has its corners at fixed distances in the table.
@@ -112,10 +107,6 @@ impl<K: SampleKind> Volume for TableVolume<'_, K> {
                 return block_inside::<K>(self.entries, at, row, layer, level);
             }
         }
-        let mut all = [false; 8];
-        for code in 0..8 {
-            all[code] = answer_inside(self.sample_at(cell.corner(code as u8)), level);
-        }
-        all
+        each_corner(cell, |p| answer_inside(self.sample_at(p), level))
     }
 }

@@ -1,13 +1,12 @@
 ghost use Rattle.std.specs.Prelude.{◌≡◌, length, Option};
 ghost use Rattle.grid.specs.declared.geometry.Point.{Point};
 ghost use Rattle.grid.specs.declared.shapes.Shape.{Shape};
-ghost use Rattle.grid.specs.Points.{sampled};
 ghost use Rattle.grid.specs.Shapes.{sides};
 ghost use Rattle.grid.specs.Patterns.{corner_flags};
 ghost use Rattle.volume.specs.Borders.{Bordered};
 ghost use Rattle.volume.specs.Insides.{inside_at};
 
-use crate::insides::answer_inside;
+use crate::insides::{answer_inside, each_corner};
 use crate::kinds::SampleKind;
 use grid::{Cell, Point, Shape};
 
@@ -22,10 +21,9 @@ pub trait Volume {
     // The sample at a grid point, if it has one there.
     ghost sample: { Self → Point → Option Self.Kind };
 
-    // Its shape; at the points on the border of such a grid, and beyond, it has no sample.
+    // The shape of its block.
     fn shape(&self) -> Shape
-        ensures is { result ≡ shaped self.now }
-        ensures border { Bordered (sides (shaped self.now)) (sample self.now) };
+        ensures { result ≡ shaped self.now };
 
     fn sample_at(&self, p: Point) -> Option<Self::Kind>
         ensures { result ≡ sample self.now p };
@@ -35,17 +33,9 @@ pub trait Volume {
         ensures value { result ≡ corner_flags (inside_at Self.Kind.SampleKind.inside level.now (sample self.now)) cell.base }
         ensures eight { length result ≡ 8 }
     {
-        let mut all = [false; 8];
-        for code in 0..8 {
-            all[code] = answer_inside(self.sample_at(cell.corner(code as u8)), level);
-        }
-        all
+        each_corner(cell, |p| answer_inside(self.sample_at(p), level))
     }
-}
 
-// Whether the point lies in the block of samples.
-pub(crate) fn has_sample(shape: Shape, p: Point) -> bool
-    ensures { result ≡ sampled (sides shape) p }
-{
-    1 <= p.x && p.x <= shape.nx && 1 <= p.y && p.y <= shape.ny && 1 <= p.z && p.z <= shape.nz
+    // At the points on the border of its grid, and beyond, a volume has no sample.
+    ghost border: { (v : Self) → Bordered (sides (shaped v)) (sample v) };
 }
