@@ -1,5 +1,5 @@
 -- What starts at a point, by the flags of the corners of its cell. Assumes nothing.
-use Rattle.std.proofs.Common.{◌≡◌, ℕ, ◌+◌, Bool, true, false, cond, ◌&&◌, List, [], ◌∷◌, map, count_by, sym, refl, ap, ◌∙◌, arith}
+use Rattle.std.proofs.Common.{◌≡◌, ℕ, Bool, true, false, cond, ◌&&◌, List, [], ◌∷◌, map, count_by, refl, ap, ◌∙◌, arith}
 use mathlib.Core.Bool.{and-true, and_assoc}
 use Rattle.std.proofs.lemmas.List.Sums.{sum_by-cons}
 use Rattle.grid.specs.declared.geometry.Point.{Point}
@@ -8,7 +8,8 @@ use Rattle.grid.specs.Cells.{tetrahedra}
 use Rattle.grid.specs.Patterns.{corner_flags, flag}
 use Rattle.topology.specs.Census.{every_inside, triangle_codes}
 use Rattle.topology.proofs.Moved.{zeros, ⊕_zeros}
-use Rattle.census.specs.Counts.{point_codes, edge_codes, starting, flag_starting}
+use Rattle.census.specs.declared.counts.Census.{Census}
+use Rattle.census.specs.Counts.{FlagsStarting, Starting, point_codes, edge_codes, starting, flag_starting}
 
 -- codes without the first, which is 0
 abbrev tail : List ℕ → List ℕ
@@ -18,7 +19,12 @@ tail (c ∷ more) = more
 abbrev pub tails : List (List ℕ) → List (List ℕ)
 tails = map tail
 
+-- the tests of the further corners count what starts at a base that is inside
 module _ (f : List Bool) (e : flag f 0 ≡ true) where
+  pub point_start : 1 ≡ flag_starting f point_codes
+  unfolding flag_starting
+  point_start = simp e
+
   pub edges_start : count_by (λ b. b) (flag f 1 ∷ flag f 2 ∷ flag f 3 ∷ flag f 4 ∷ flag f 5 ∷ flag f 6 ∷ flag f 7 ∷ []) ≡ flag_starting f edge_codes
   unfolding flag_starting
   edges_start = simp (e, and-true)
@@ -39,27 +45,29 @@ module _ (f : List Bool) (e : flag f 0 ≡ true) where
   unfolding flag_starting tetrahedra
   tetrahedra_start = simp (e, and-true, and_assoc)
 
+-- nothing starts at a base that is outside
+module _ (f : List Bool) (e : flag f 0 ≡ false) where
+  pub no_points : flag_starting f point_codes ≡ 0
+  unfolding flag_starting
+  no_points = simp e
+
+  pub no_edges : flag_starting f edge_codes ≡ 0
+  unfolding flag_starting
+  no_edges = simp e
+
+  pub no_triangles : flag_starting f triangle_codes ≡ 0
+  unfolding flag_starting
+  no_triangles = simp e
+
+  pub no_tetrahedra : flag_starting f tetrahedra ≡ 0
+  unfolding flag_starting tetrahedra
+  no_tetrahedra = simp e
+
 -- the flags of the corners of the cell at P say what starts at P
 module _ (inside : Point → Bool) (P : Point) where
-  pub base_flag : (flags : List Bool) → flags ≡ corner_flags inside P → true ≡ inside P → flag flags 0 ≡ true
-  unfolding corner_flags zeros offset
-  base_flag flags f e = ap (λ l. flag l 0) f ∙ ap inside (⊕_zeros P) ∙ sym e
-
-  pub edges_by_flags : flag_starting (corner_flags inside P) edge_codes ≡ starting inside edge_codes P
-  unfolding flag_starting starting corner_flags
-  edges_by_flags = refl
-
-  pub triangles_by_flags : flag_starting (corner_flags inside P) triangle_codes ≡ starting inside triangle_codes P
-  unfolding flag_starting starting corner_flags
-  triangles_by_flags = refl
-
-  pub tetrahedra_by_flags : flag_starting (corner_flags inside P) tetrahedra ≡ starting inside tetrahedra P
+  pub by_flags : (c : Census) → FlagsStarting (corner_flags inside P) c → Starting inside P c
   unfolding flag_starting starting corner_flags tetrahedra
-  tetrahedra_by_flags = refl
-
-  pub point_starts : true ≡ inside P → 1 ≡ starting inside point_codes P
-  unfolding starting zeros offset
-  point_starts e = ap (λ b. 0 + cond {A = ℕ} (b && true) 1 0) (e ∙ sym (ap inside (⊕_zeros P)))
+  by_flags c h = record { points = h.points; edges = h.edges; triangles = h.triangles; tetrahedra = h.tetrahedra; few = h.few }
 
   -- nothing starts at a point that is outside
   pub none_start : (tails : List (List ℕ)) → inside P ≡ false → starting inside (map (λ m. 0 ∷ m) tails) P ≡ 0

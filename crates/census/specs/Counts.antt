@@ -1,5 +1,6 @@
 -- The census of a grid, what of it starts at one point, and its Euler number.
-use Rattle.std.specs.Prelude.{◌≡◌, ℕ, ◌≤◌, Bool, true, ◌&&◌, List, [], ◌∷◌, map, ℤ, pos, ◌+ℤ◌, ◌-ℤ◌, count_by}
+use Rattle.std.specs.Prelude.{◌≡◌, ℕ, ◌+◌, ◌^◌, ◌≤◌, Bool, List, [], ◌∷◌, map, ℤ, pos, ◌+ℤ◌, ◌-ℤ◌, count_by}
+use Rattle.std.specs.List.{list_all}
 use Rattle.grid.specs.declared.geometry.Point.{Point}
 use Rattle.grid.specs.Points.{Sides}
 use Rattle.grid.specs.Cells.{tetrahedra}
@@ -13,6 +14,27 @@ pub record Taken (n : Sides) (inside : Point → Bool) (c : Census) : Type 0 whe
   pub edges : c.edges ≡ N1 n inside
   pub triangles : c.triangles ≡ N2 n inside
   pub tetrahedra : c.tetrahedra ≡ N3 n inside
+
+-- it counts nothing
+pub record Nothing (c : Census) : Type 0 where
+  pub points : c.points ≡ 0
+  pub edges : c.edges ≡ 0
+  pub triangles : c.triangles ≡ 0
+  pub tetrahedra : c.tetrahedra ≡ 0
+
+-- two of them may be added: no number of the sum is above the limit
+pub record SumFits (a b : Census) : Type 0 where
+  pub points : a.points + b.points ≤ 2 ^ 40
+  pub edges : a.edges + b.edges ≤ 2 ^ 40
+  pub triangles : a.triangles + b.triangles ≤ 2 ^ 40
+  pub tetrahedra : a.tetrahedra + b.tetrahedra ≤ 2 ^ 40
+
+-- their sum, number by number
+pub record Sum (a b c : Census) : Type 0 where
+  pub points : c.points ≡ a.points + b.points
+  pub edges : c.edges ≡ a.edges + b.edges
+  pub triangles : c.triangles ≡ a.triangles + b.triangles
+  pub tetrahedra : c.tetrahedra ≡ a.tetrahedra + b.tetrahedra
 
 -- points - edges + triangles - tetrahedra
 abbrev pub euler_number : Census → ℤ
@@ -37,10 +59,14 @@ pub record Starting (inside : Point → Bool) (P : Point) (c : Census) : Type 0 
   pub tetrahedra : c.tetrahedra ≡ starting inside Rattle.grid.specs.Cells.tetrahedra P
   pub few : (c.points ≤ 12) × (c.edges ≤ 12) × (c.triangles ≤ 12) × (c.tetrahedra ≤ 12)
 
--- what starts at a point by the flags of the corners of its cell
-abbrev pub every_flag : List Bool → List ℕ → Bool
-every_flag flags [] = true
-every_flag flags (c ∷ more) = flag flags c && every_flag flags more
-
+-- how many of some simplices have all corners inside, by the flags of the corners of their cell
 unfoldable pub flag_starting : List Bool → List (List ℕ) → ℕ
-flag_starting flags simplices = count_by (every_flag flags) simplices
+flag_starting flags simplices = count_by (λ corners. list_all (λ c. flag flags c) corners) simplices
+
+-- it counts what starts at the base of a cell with these flags, and that is at most twelve of each
+pub record FlagsStarting (flags : List Bool) (c : Census) : Type 0 where
+  pub points : c.points ≡ flag_starting flags point_codes
+  pub edges : c.edges ≡ flag_starting flags edge_codes
+  pub triangles : c.triangles ≡ flag_starting flags triangle_codes
+  pub tetrahedra : c.tetrahedra ≡ flag_starting flags Rattle.grid.specs.Cells.tetrahedra
+  pub few : (c.points ≤ 12) × (c.edges ≤ 12) × (c.triangles ≤ 12) × (c.tetrahedra ≤ 12)
