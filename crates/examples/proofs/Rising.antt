@@ -4,7 +4,7 @@ use Rattle.refusal.specs.declared.refusals.Refusal.{Refusal}
 use Rattle.grid.specs.Cells.{cell_count, cell_base}
 use Rattle.mesh.specs.Triangles.{no_triangle}
 use Rattle.topology.proofs.Finite.{◌and◌, all, all_at, left, right}
-use Rattle.surface.specs.declared.sizes.Need.{Need}
+use Rattle.surface.specs.declared.sizes.Counts.{Counts}
 use Rattle.surface.specs.Marches.{State, Field, march_refusal, marched, begun}
 use Rattle.surface.specs.Needs.{need}
 use Rattle.surface.specs.Runs.{Run, begin, march}
@@ -20,7 +20,7 @@ unfoldable pub after : Field → ℕ → ℕ → ℕ → State
 after f v t zero = fresh f v t
 after f v t (suc c) = marched f (after f v t c) c
 
-abbrev pub its_need : Field → State → ℕ → Need
+abbrev pub its_need : Field → State → ℕ → Counts
 its_need f s c = need f.inside s.tables.numbered.entries (cell_base s.sides c)
 
 unfoldable pub step_taken : Field → ℕ → ℕ → ℕ → Bool

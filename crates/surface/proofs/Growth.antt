@@ -23,7 +23,7 @@ use Rattle.surface.specs.Ties.{Tied}
 use Rattle.surface.proofs.Ties.{same_edge, held_now, others_kept, one_taken, named_kept, named_next, tied_next}
 
 -- the crossed edges of the cell at B that have no vertex
-abbrev pub wants : (Point → Bool) → Point → List (Entry GridEdge) → ℕ
+abbrev pub wants : (Point → Bool) → Point → List (Option (Entry GridEdge)) → ℕ
 wants inside B es = count_by (wanting inside es) (cell_edges B)
 
 -- there is room for them
@@ -62,10 +62,10 @@ option_cases (Some k) = inl (k, refl)
 option_cases None = inr refl
 
 module _ (place : GridEdge → Coordinates) (inside : Point → Bool) (B : Point) where
-  bare_wanting : (es : List (Entry GridEdge)) (e : GridEdge) → crossed inside e ≡ true → vertex_on es e ≡ None → wanting inside es e ≡ true
+  bare_wanting : (es : List (Option (Entry GridEdge))) (e : GridEdge) → crossed inside e ≡ true → vertex_on es e ≡ None → wanting inside es e ≡ true
   bare_wanting es e c n = (λ i. c i && not (is_some (n i)))
 
-  has_none : (es : List (Entry GridEdge)) (e : GridEdge) (k : ℕ) → vertex_on es e ≡ Some k → wanting inside es e ≡ false
+  has_none : (es : List (Option (Entry GridEdge))) (e : GridEdge) (k : ℕ) → vertex_on es e ≡ Some k → wanting inside es e ≡ false
   has_none es e k h = ap (λ (o : Option ℕ). crossed inside e && not (is_some o)) h ∙ and_false (crossed inside e)
     where
       and_false : (b : Bool) → b && false ≡ false
@@ -93,7 +93,7 @@ module _ (place : GridEdge → Coordinates) (inside : Point → Bool) (B : Point
         let room = fits.entry n in
         let left = fits.vertex n in
         let sound = r.tied.sound in
-        let es : List (Entry GridEdge) = with_vertex s.entries e s.count in
+        let es : List (Option (Entry GridEdge)) = with_vertex s.entries e s.count in
         let here : vertex_on es e ≡ Some s.count = held_now s.entries sound e s.count n room in
         let kept = others_kept s.entries sound e s.count n room in
         let less : wants inside B s.entries ≡ wants inside B es + 1 =
@@ -223,6 +223,3 @@ module _ (place : GridEdge → Coordinates) (inside : Point → Bool) (B : Point
     -- so many vertices came as the cell needed, and the tie holds
     pub grown : (added_all place s (cell_triangles inside B)).numbered.count ≡ s.numbered.count + wants inside B s.numbered.entries
     grown = let z = satisfied in let f = final.sum in omega arith
-
-    pub tied_after : Tied (added_all place s (cell_triangles inside B)).numbered
-    tied_after = final.ready.tied

@@ -1,30 +1,18 @@
 -- The calls keep the skin law. Assumes nothing.
-use Rattle.std.proofs.Common.{◌≡◌, ℕ, ◌<◌, Bool, true, false, List, ◌∷◌, length, get_or, set, replicate, Ok, Err, Option, Result, sym, ap, ◌∙◌, subst, inl, inr, ⊎_elim, get_or-set_other, get_or-set_same}
-use Rattle.std.proofs.lemmas.Bool.{cases_Bool, cases_eq}
-use Rattle.grid.specs.declared.geometry.Point.{Point}
+use Rattle.std.proofs.Common.{◌≡◌, ℕ, ◌<◌, Bool, true, false, List, ◌∷◌, length, get_or, set, replicate, Ok, Err, Result, sym, ap, ◌∙◌, subst, inl, inr, ⊎_elim, get_or-set_other, get_or-set_same}
+use Rattle.std.proofs.lemmas.Bool.{cases_eq}
 use Rattle.grid.specs.declared.geometry.Triangle.{Triangle}
 use Rattle.refusal.specs.declared.refusals.Refusal.{Refusal}
-use Rattle.grid.specs.Points.{Sides, sampled}
+use Rattle.grid.specs.Points.{Sides}
 use Rattle.mesh.specs.declared.records.Vertex.{Vertex}
 use Rattle.topology.specs.Crossings.{NoRepeat}
 use Rattle.topology.proofs.Members.{In, in_has, has_in}
-use Rattle.volume.specs.declared.fractions.Fraction.{Fraction}
-use Rattle.volume.specs.Borders.{Bordered}
-use Rattle.surface.specs.declared.sizes.Need.{Need}
-use Rattle.volume.specs.Insides.{answer_inside, inside_at}
+use Rattle.surface.specs.declared.sizes.Counts.{Counts}
 use Rattle.surface.specs.Law.{Bounded, Lawful, BeginsSkin, KeepsSkin}
-use Rattle.surface.specs.Marches.{State, Field, field, March, marched, begun}
+use Rattle.surface.specs.Marches.{State, Field, March, marched, begun}
 use Rattle.surface.specs.Runs.{Run, begin, march, other, ask, accepted_cells}
 use Rattle.surface.proofs.Models.{accepted, get_d_replicate, modelled, same_shape, true_false}
 use Rattle.surface.proofs.Totals.{run_skin}
-
--- where a volume has no sample no point is inside
-pub bounded : {K L : Type 0} (inside : K → L → Bool) (crossing : K → K → L → Fraction) (h : L) (n : Sides) (sample : Point → Option K) → Bordered n sample → Bounded (field inside crossing h n sample)
-bounded inside crossing h n sample border p i =
-    ⊎_elim
-    (λ t. t)
-    (λ t. true_false (inside_at inside h sample p) i (ap (answer_inside inside h) (border p t)))
-    (cases_Bool (sampled n p))
 
 -- the marks after a run: true exactly at the cells that it accepted
 record Marks (marks : List Bool) (cells : List ℕ) : Type 0 where
@@ -72,7 +60,7 @@ lawful f s b r =
       skin = run_skin f s b r;
     }
 
-pub march_keeps : (f : Field) (s t : State) (cell : ℕ) (answer : Result Need Refusal) → Bounded f → March f s cell answer t → KeepsSkin f s t
+pub march_keeps : (f : Field) (s t : State) (cell : ℕ) (answer : Result Counts Refusal) → Bounded f → March f s cell answer t → KeepsSkin f s t
 march_keeps f s t cell answer b m = record {
   run = λ r. march r cell answer m;
   law = lawful f t b;

@@ -1,5 +1,5 @@
 -- The vertices and the triangles of a modelled surface are those of its marched cells. Assumes nothing.
-use Rattle.std.proofs.Common.{◌≡◌, ℕ, zero, suc, ◌<◌, List, [], ◌∷◌, length, get_or, Some, sym, refl, ap, ◌∙◌, subst, ap₂, arith}
+use Rattle.std.proofs.Common.{◌≡◌, ℕ, zero, suc, ◌<◌, List, [], ◌∷◌, length, get_or, Some, sym, refl, ap, ◌∙◌, subst, ap₂, arith, Option}
 use Rattle.std.specs.List.{flat_map}
 use Rattle.std.proofs.lemmas.List.{length-take-le, get_or-take}
 use Rattle.grid.specs.declared.geometry.GridEdge.{GridEdge}
@@ -52,7 +52,7 @@ one_place f s n c k c' k' p q =
     (same_cell f c c' (ap (λ (v : Side). v.base) z), ap (λ (v : Side). v.triangle) z)
 
 module _ (f : Field) (s : State) (m : Model f s) where
-  abbrev es : List (Entry GridEdge)
+  abbrev es : List (Option (Entry GridEdge))
   es = s.tables.numbered.entries
 
   held : (n : ℕ) (e : GridEdge) → Carries s n e → vertex_on es e ≡ Some n

@@ -1,6 +1,6 @@
 -- What the calls of a march add up to. Assumes nothing.
 use Rattle.std.proofs.Common.{◌≡◌, ℕ, ◌+◌, ◌≤◌, Bool, true, false, cond, ◌&&◌, leb, List, [], ◌∷◌, length, set, Some, None, Ok, count_by, filter, Option, sym, refl, ap, ◌∙◌, subst, arith, length-set}
-use mathlib.Core.Logic.{∥∥₁_elim, ∥∥₁_prop}
+use mathlib.Core.Logic.{∥∥₁_elim}
 use native.Mathlib.Bridge.{le_prop}
 use native.Mathlib.Nat.{ℕ_set}
 use Rattle.std.proofs.lemmas.List.{nil_from_length}
@@ -13,20 +13,20 @@ use Rattle.refusal.specs.declared.refusals.Refusal.{Refusal}
 use Rattle.refusal.specs.declared.refusals.Refusal.TheVariants.{EntryRoom, VertexRoom, TriangleRoom}
 use Rattle.grid.specs.Points.{crossed}
 use Rattle.grid.specs.Cells.{cell_base, cell_edges, cell_triangles}
-use Rattle.grid.specs.Patterns.{corner_flags, flag_triangles}
+use Rattle.grid.specs.Patterns.{corner_flags, flag_edges, flag_triangles}
 use Rattle.grid.specs.Shapes.{shapes_refusal}
 use Rattle.grid.proofs.Patterns.{edges_by_flags, triangles_by_flags}
 use Rattle.keymap.specs.declared.table.Entry.{Entry}
 use Rattle.keymap.specs.Frees.{free}
 use Rattle.mesh.specs.declared.records.Coordinates.{Coordinates}
-use Rattle.surface.specs.declared.sizes.Need.{Need}
+use Rattle.surface.specs.declared.sizes.Counts.{Counts}
 use Rattle.surface.specs.Fits.{Fits, FitsAll}
 use Rattle.surface.specs.Needs.{bare, wanting, need, flag_need, lack}
 use Rattle.surface.specs.Marches.{State, Field, cell_refusal, room_refusal, else_by, march_refusal, marched, March}
 use Rattle.surface.specs.Rooms.{room_left}
 use Rattle.surface.specs.States.{Numbering, Tables, tables, added, added_all}
 use Rattle.surface.specs.Ties.{Tied}
-use Rattle.surface.proofs.Growth.{Ready, fits_all, grown, tied_after}
+use Rattle.surface.proofs.Growth.{Ready, fits_all, grown}
 
 -- the need of a cell, by the flags of its corners
 count_kept : {X : Type 0} (p q : X → Bool) (xs : List X) → count_by p (filter q xs) ≡ count_by (λ x. q x && p x) xs
@@ -40,7 +40,7 @@ count_kept p q (x ∷ xs) =
     chosen true = sum_by-cons (λ y. cond (p y) 1 0) x (filter q xs)
     chosen false = omega arith
 
-pub need_by_flags : (inside : Point → Bool) (es : List (Entry GridEdge)) (B C : Point) (flags : List Bool) → C ≡ B → flags ≡ corner_flags inside C → flag_need es flags C ≡ need inside es B
+pub need_by_flags : (inside : Point → Bool) (es : List (Option (Entry GridEdge))) (B C : Point) (flags : List Bool) → C ≡ B → flags ≡ corner_flags inside C → flag_need es flags C ≡ need inside es B
 unfolding flag_need need
 need_by_flags inside es B C flags p f =
     ap (λ (l : List Bool). flag_need es l C) f ∙ ap (λ (q : Point). flag_need es (corner_flags inside q) q) p
@@ -52,6 +52,20 @@ need_by_flags inside es B C flags p f =
 pub list_by_flags : (inside : Point → Bool) (B C : Point) (flags : List Bool) → C ≡ B → flags ≡ corner_flags inside C → flag_triangles flags C ≡ cell_triangles inside B
 list_by_flags inside B C flags p f =
     ap (λ (l : List Bool). flag_triangles l C) f ∙ triangles_by_flags inside C ∙ ap (cell_triangles inside) p
+
+-- a need and triangles that are those of the cell at B
+pub record Listed (inside : Point → Bool) (es : List (Option (Entry GridEdge))) (B : Point) (n : Counts) (τs : List (Triangle GridEdge)) : Type 0 where
+  pub need_is : n ≡ need inside es B
+  pub list_is : τs ≡ cell_triangles inside B
+
+pub listed : (inside : Point → Bool) (es : List (Option (Entry GridEdge))) (B C : Point) (flags : List Bool) (edges es1 : List GridEdge) (τs τs1 τs2 : List (Triangle GridEdge)) (n : Counts)
+    → C ≡ B → flags ≡ corner_flags inside C → edges ≡ flag_edges flags C → es1 ≡ edges → τs ≡ flag_triangles flags C → τs1 ≡ τs → τs2 ≡ τs
+    → n.vertices ≡ count_by (bare es) es1 → n.triangles ≡ length τs1 → Listed inside es B n τs2
+unfolding flag_need
+listed inside es B C flags edges es1 τs τs1 τs2 n p f e e1 t t1 t2 v w = record {
+  need_is = (λ i. record { vertices = (v ∙ ap (count_by (bare es)) (e1 ∙ e)) i; triangles = (w ∙ ap length (t1 ∙ t)) i }) ∙ need_by_flags inside es B C flags p f;
+  list_is = t2 ∙ t ∙ list_by_flags inside B C flags p f;
+}
 
 -- why a march is refused
 module _ (f : Field) (s : State) (cell : ℕ) where
@@ -67,15 +81,15 @@ module _ (f : Field) (s : State) (cell : ℕ) where
   refused_cell e h k = past_shape h (Some e) (ap (λ (q : Option Refusal). else_by q (room_refusal s.tables (need f.inside s.tables.numbered.entries (cell_base s.sides cell)) cell)) k)
 
   -- past the cell, room alone decides
-  pub by_room : (n : Need) (o : Option Refusal) → shapes_refusal s.sides f.sides ≡ None → cell_refusal s cell ≡ None
+  pub by_room : (n : Counts) (o : Option Refusal) → shapes_refusal s.sides f.sides ≡ None → cell_refusal s cell ≡ None
       → n ≡ need f.inside s.tables.numbered.entries (cell_base s.sides cell) → room_refusal s.tables n cell ≡ o → march_refusal f s cell ≡ o
   by_room n o h k e r =
       past_shape h o
       (ap (λ (q : Option Refusal). else_by q (room_refusal s.tables (need f.inside s.tables.numbered.entries (cell_base s.sides cell)) cell)) k
-      ∙ ap (λ (m : Need). room_refusal s.tables m cell) (sym e) ∙ r)
+      ∙ ap (λ (m : Counts). room_refusal s.tables m cell) (sym e) ∙ r)
 
 -- where nothing is lacking there is room
-pub record Roomy (n : Need) (entries vertices triangles : ℕ) : Type 0 where
+pub record Roomy (n : Counts) (entries vertices triangles : ℕ) : Type 0 where
   pub entry : n.vertices ≤ entries
   pub vertex : n.vertices ≤ vertices
   pub triangle : n.triangles ≤ triangles
@@ -83,7 +97,7 @@ pub record Roomy (n : Need) (entries vertices triangles : ℕ) : Type 0 where
 pub some_none : (e : Refusal) → Some e ≡ None → ⊥
 some_none e p = let z : ◌≡◌ {A = ℕ} 0 1 = cc in omega arith
 
-pub roomy : (n : Need) (entries vertices triangles cell : ℕ) → lack n entries vertices triangles cell ≡ None → Roomy n entries vertices triangles
+pub roomy : (n : Counts) (entries vertices triangles cell : ℕ) → lack n entries vertices triangles cell ≡ None → Roomy n entries vertices triangles
 roomy n entries vertices triangles cell h = by_entry (leb n.vertices entries) refl
   where
     by_triangle : leb n.vertices entries ≡ true → leb n.vertices vertices ≡ true → (b : Bool) → leb n.triangles triangles ≡ b → Roomy n entries vertices triangles
@@ -125,15 +139,15 @@ added_records place s (τ ∷ τs) =
     (a ∙ omega arith, r.1 ∙ length-set s.triangles s.count _)
 
 -- a march of the cell at B for which there is room
-module _ (place : GridEdge → Coordinates) (inside : Point → Bool) (B : Point) (s : Tables) (n : Need) (e : n ≡ need inside s.numbered.entries B)
+module _ (place : GridEdge → Coordinates) (inside : Point → Bool) (B : Point) (s : Tables) (n : Counts) (e : n ≡ need inside s.numbered.entries B)
     (tied : ∥ Tied s.numbered ∥₁) (room : Roomy n (free s.numbered.entries) (room_left (length s.numbered.vertices) s.numbered.count) (room_left (length s.triangles) s.count)) where
   vertices_is : n.vertices ≡ count_by (wanting inside s.numbered.entries) (cell_edges B)
   unfolding need
-  vertices_is = ap (λ (m : Need). m.vertices) e
+  vertices_is = ap (λ (m : Counts). m.vertices) e
 
   pub triangles_is : n.triangles ≡ length (cell_triangles inside B)
   unfolding need
-  triangles_is = ap (λ (m : Need). m.triangles) e
+  triangles_is = ap (λ (m : Counts). m.triangles) e
 
   ready : Tied s.numbered → Ready inside B s.numbered
   ready t = let v = vertices_is in let a = room.entry in let b = room.vertex in record { tied = t; entry = omega arith; vertex = omega arith }
@@ -145,24 +159,8 @@ module _ (place : GridEdge → Coordinates) (inside : Point → Bool) (B : Point
   room_for τs p = let l = ap length p in let t = triangles_is in let r = room.triangle in omega arith
 
   module _ (t : Tables) (after : t ≡ added_all place s (cell_triangles inside B)) where
-    pub tied_then : ∥ Tied t.numbered ∥₁
-    tied_then = subst (λ (q : Tables). ∥ Tied q.numbered ∥₁) (sym after) (∥∥₁_elim tied ∥∥₁_prop (λ k. ∣ tied_after place inside B s (ready k) ∣₁))
-
     pub grown_then : t.numbered.count ≡ s.numbered.count + n.vertices
     grown_then = ap (λ (q : Tables). q.numbered.count) after ∙ ∥∥₁_elim tied (ℕ_set _ _) (λ k. grown place inside B s (ready k)) ∙ ap (λ (m : ℕ). s.numbered.count + m) (sym vertices_is)
-
-    pub vertices_fit : t.numbered.count ≤ length t.numbered.vertices
-    vertices_fit = ∥∥₁_elim tied_then le_prop (λ k. k.within)
-
-    pub triangles_fit : s.count ≤ length s.triangles → t.count ≤ length t.triangles
-    triangles_fit h =
-        let r = added_records place s (cell_triangles inside B) in
-        let a = r.0 in
-        let b = r.1 in
-        let c = ap (λ (q : Tables). q.count) after in
-        let d = ap (λ (q : Tables). length q.triangles) after in
-        let x = room_for (cell_triangles inside B) refl in
-        omega arith
 
   -- a cell with no triangles leaves the tables as they are
   pub nothing_added : n.triangles ≡ 0 → s ≡ added_all place s (cell_triangles inside B)
@@ -175,7 +173,7 @@ unfolding marched
 marched_is f s t cell a b c = (λ i. record { sides = a i; marks = b i; tables = c i })
 
 -- an accepted march, by what it leaves
-pub accepted : (f : Field) (s t : State) (cell : ℕ) (n : Need) → shapes_refusal s.sides f.sides ≡ None → cell_refusal s cell ≡ None
+pub accepted : (f : Field) (s t : State) (cell : ℕ) (n : Counts) → shapes_refusal s.sides f.sides ≡ None → cell_refusal s cell ≡ None
     → n ≡ need f.inside s.tables.numbered.entries (cell_base s.sides cell) → ∥ Tied s.tables.numbered ∥₁ → room_refusal s.tables n cell ≡ None
     → t.sides ≡ s.sides → t.marks ≡ set s.marks cell true → t.tables ≡ added_all f.place s.tables (cell_triangles f.inside (cell_base s.sides cell)) → March f s cell (Ok n) t
 accepted f s t cell n shape allowed e tied none sides marks tables =

@@ -8,6 +8,7 @@ use Rattle.grid.specs.declared.geometry.GridEdge.{GridEdge}
 use Rattle.grid.specs.declared.geometry.Triangle.{Triangle}
 use Rattle.refusal.specs.declared.refusals.Refusal.{Refusal}
 use Rattle.refusal.specs.declared.refusals.Refusal.TheVariants.{Outside, Marched, NoMark, OtherShape}
+use Rattle.refusal.specs.declared.refusals.Axis.TheVariants.{X, Y, Z}
 use Rattle.grid.specs.Points.{Sides, crossed}
 use Rattle.grid.specs.Cells.{cell_count, cell_base, cell_edges, cell_triangles}
 use Rattle.grid.specs.Shapes.{shapes_refusal}
@@ -19,7 +20,7 @@ use Rattle.topology.specs.Crossings.{NoRepeat}
 use Rattle.topology.specs.Sides.{none}
 use Rattle.topology.proofs.Crossed.{cell_crossings}
 use Rattle.topology.proofs.Members.{In, in_has, has_in, in_left, in_right, in_cases}
-use Rattle.surface.specs.declared.sizes.Need.{Need}
+use Rattle.surface.specs.declared.sizes.Counts.{Counts}
 use Rattle.surface.specs.Marches.{State, Field, March, march_refusal, marched, begun, cell_refusal, room_refusal, else_by}
 use Rattle.surface.specs.Needs.{need}
 use Rattle.surface.specs.Rooms.{room_left}
@@ -118,11 +119,11 @@ accepted f s cell h =
 -- shapes that are not refused are the same
 pub same_shape : (s t : Sides) → shapes_refusal s t ≡ None → s ≡ t
 same_shape s t h =
-    let k : Option Refusal = cond (eqb s.nz t.nz) None (Some (OtherShape 2)) in
-    let l : Option Refusal = cond (eqb s.ny t.ny) k (Some (OtherShape 1)) in
-    let x = cond_none (eqb s.nx t.nx) l (OtherShape 0) h in
-    let y = cond_none (eqb s.ny t.ny) k (OtherShape 1) x.1 in
-    let z = cond_none (eqb s.nz t.nz) None (OtherShape 2) y.1 in
+    let k : Option Refusal = cond (eqb s.nz t.nz) None (Some (OtherShape Z)) in
+    let l : Option Refusal = cond (eqb s.ny t.ny) k (Some (OtherShape Y)) in
+    let x = cond_none (eqb s.nx t.nx) l (OtherShape X) h in
+    let y = cond_none (eqb s.ny t.ny) k (OtherShape Y) x.1 in
+    let z = cond_none (eqb s.nz t.nz) None (OtherShape Z) y.1 in
     let ex = eqb-true s.nx t.nx x.0 in
     let ey = eqb-true s.ny t.ny y.0 in
     let ez = eqb-true s.nz t.nz z.0 in
@@ -140,7 +141,7 @@ module _ (f : Field) (s : State) (cell : ℕ) (m : Model f s) (a : Accepted f s 
   abbrev B : Point
   B = cell_base f.sides cell
 
-  abbrev es : List (Entry GridEdge)
+  abbrev es : List (Option (Entry GridEdge))
   es = s.tables.numbered.entries
 
   abbrev after : Tables
@@ -247,11 +248,11 @@ model_marched f s cell m h =
     subst (λ (n : Sides). Model f (record { sides = s.sides; marks = set s.marks cell true; tables = added_all f.place s.tables (cell_triangles f.inside (cell_base n cell)) }))
     (sym m.sides) (model_more f s cell m (accepted f s cell h))
 
-model_march : (f : Field) (s t : State) (cell : ℕ) (answer : Result Need Refusal) → Model f s → March f s cell answer t → Model f t
+model_march : (f : Field) (s t : State) (cell : ℕ) (answer : Result Counts Refusal) → Model f s → March f s cell answer t → Model f t
 model_march f s t cell (Ok n) m h = subst (Model f) (sym h.2) (model_marched f s cell m h.0)
 model_march f s t cell (Err e) m h = subst (Model f) (sym h.1) m
 
-model_other : (f g : Field) (s t : State) (cell : ℕ) (answer : Result Need Refusal) → (g.sides ≡ f.sides → ⊥) → Model f s → March g s cell answer t → Model f t
+model_other : (f g : Field) (s t : State) (cell : ℕ) (answer : Result Counts Refusal) → (g.sides ≡ f.sides → ⊥) → Model f s → March g s cell answer t → Model f t
 model_other f g s t cell (Ok n) d m h = absurd (d (sym (same_shape s.sides g.sides (accepted g s cell h.0).shape) ∙ m.sides))
 model_other f g s t cell (Err e) d m h = subst (Model f) (sym h.1) m
 

@@ -15,7 +15,7 @@ module _ (place : GridEdge → Coordinates) (s : Numbering) (e : GridEdge) where
   unfolding named
   named_old n h = ap (λ (o : Option ℕ). named_by place o s e) h
 
-  pub named_new : (es : List (Entry GridEdge)) (vs : List Vertex) (n : ℕ) (at : Coordinates) → None ≡ vertex_on s.entries e → es ≡ with_vertex s.entries e s.count
+  pub named_new : (es : List (Option (Entry GridEdge))) (vs : List Vertex) (n : ℕ) (at : Coordinates) → None ≡ vertex_on s.entries e → es ≡ with_vertex s.entries e s.count
       → at ≡ place e → vs ≡ set s.vertices s.count (record { edge = e; at = at }) → n ≡ s.count + 1 → numbering es vs n ≡ named place s e
   unfolding named
   named_new es vs n at h x p v c =

@@ -22,7 +22,7 @@ abbrev pub Placed : (GridEdge → Coordinates) → Numbering → Type 0
 Placed place s = (k : ℕ) (d : Vertex) → k < s.count → (get_or s.vertices k d).at ≡ place (get_or s.vertices k d).edge
 
 -- the map holds the numbers of a triangle's corners for the grid edges that carry them
-pub record Means (es : List (Entry GridEdge)) (t : Triangle ℕ) (τ : Triangle GridEdge) : Type 0 where
+pub record Means (es : List (Option (Entry GridEdge))) (t : Triangle ℕ) (τ : Triangle GridEdge) : Type 0 where
   pub a : vertex_on es τ.a ≡ Some t.a
   pub b : vertex_on es τ.b ≡ Some t.b
   pub c : vertex_on es τ.c ≡ Some t.c
@@ -62,7 +62,7 @@ module _ (place : GridEdge → Coordinates) (inside : Point → Bool) (B : Point
         let room = (fits place inside B s e r has c).entry n in
         let left = (fits place inside B s e r has c).vertex n in
         let sound = r.tied.sound in
-        let es : List (Entry GridEdge) = with_vertex s.entries e s.count in
+        let es : List (Option (Entry GridEdge)) = with_vertex s.entries e s.count in
         let here : vertex_on es e ≡ Some s.count = held_now s.entries sound e s.count n room in
         let kept = others_kept s.entries sound e s.count n room in
         let v : Vertex = record { edge = e; at = place e } in

@@ -38,7 +38,7 @@ some_some o k n p q = cc
 pub none_some : (o : Option ℕ) (k : ℕ) → o ≡ None → o ≡ Some k → ⊥
 none_some o k p q = let z : ◌≡◌ {A = ℕ} 0 1 = cc in omega arith
 
-module _ (es : List (Entry GridEdge)) (sound : Sound edge_meaning edge_hash es) (e : GridEdge) (n : ℕ) (bare : vertex_on es e ≡ None) (room : 0 < free es) where
+module _ (es : List (Option (Entry GridEdge))) (sound : Sound edge_meaning edge_hash es) (e : GridEdge) (n : ℕ) (bare : vertex_on es e ≡ None) (room : 0 < free es) where
   maps : Maps edge_meaning edge_hash es (with_vertex es e n) e n
   unfolding with_vertex
   maps = put_maps edge_meaning edge_hash es e n sound

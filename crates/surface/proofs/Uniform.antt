@@ -1,5 +1,5 @@
 -- A cell whose corners are all on one side needs nothing. Assumes nothing.
-use Rattle.std.proofs.Common.{◌≡◌, ℕ, ◌<◌, Bool, true, false, cond, ◌&&◌, ◌||◌, leb, List, length, get_or, replicate, Some, None, sym, refl, ◌∙◌, arith}
+use Rattle.std.proofs.Common.{◌≡◌, ℕ, ◌<◌, Bool, true, false, cond, ◌&&◌, ◌||◌, leb, List, length, get_or, replicate, Some, None, sym, refl, ◌∙◌, arith, Option}
 use mathlib.Core.Bool.{beq}
 use Rattle.std.proofs.lemmas.List.{ext_get_or, get_or-replicate}
 use Rattle.std.proofs.lemmas.Bool.{le-leb}
@@ -11,16 +11,16 @@ use Rattle.grid.specs.Cases.{row, rows, swap}
 use Rattle.grid.specs.Patterns.{flag_edges, flag_triangles, flag_tet, flag_mask}
 use Rattle.keymap.specs.declared.table.Entry.{Entry}
 use Rattle.keymap.specs.Frees.{free}
-use Rattle.surface.specs.declared.sizes.Need.{Need}
+use Rattle.surface.specs.declared.sizes.Counts.{Counts}
 use Rattle.surface.specs.Marches.{room_refusal}
 use Rattle.surface.specs.Needs.{flag_need}
 use Rattle.surface.specs.Rooms.{room_left}
 use Rattle.surface.specs.States.{Tables}
 
-abbrev pub nothing : Need
+abbrev pub nothing : Counts
 nothing = record { vertices = 0; triangles = 0 }
 
-pub uniform_need : (es : List (Entry GridEdge)) (b : Bool) (B : Point) → nothing ≡ flag_need es (replicate 8 b) B
+pub uniform_need : (es : List (Option (Entry GridEdge))) (b : Bool) (B : Point) → nothing ≡ flag_need es (replicate 8 b) B
 unfolding flag_need flag_edges flag_triangles flag_tet flag_mask corner tetrahedra pack value odd row rows swap
 uniform_need es true B = refl
 uniform_need es false B = refl

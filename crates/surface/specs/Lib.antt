@@ -10,3 +10,4 @@ pub mod Questions
 pub mod Runs
 pub mod Skins
 pub mod Law
+pub mod Bounds

@@ -9,10 +9,9 @@ use Rattle.grid.specs.Cells.{cell_count, cell_base, cell_triangles}
 use Rattle.grid.specs.Shapes.{shapes_refusal}
 use Rattle.keymap.specs.Frees.{free}
 use Rattle.grid.specs.declared.geometry.Triangle.{Triangle}
-use Rattle.keymap.specs.declared.table.Entry.TheVariants.{Free}
 use Rattle.mesh.specs.declared.records.Coordinates.{Coordinates}
 use Rattle.mesh.specs.declared.records.Vertex.{Vertex}
-use Rattle.surface.specs.declared.sizes.Need.{Need}
+use Rattle.surface.specs.declared.sizes.Counts.{Counts}
 use Rattle.surface.specs.Needs.{need, lack}
 use Rattle.volume.specs.declared.fractions.Fraction.{Fraction}
 use Rattle.volume.specs.Insides.{inside_at}
@@ -37,7 +36,7 @@ abbrev pub field : {K L : Type 0} → (K → L → Bool) → (K → K → L → 
 field inside crossing h s sample = record { sides = s; inside = inside_at inside h sample; place = place inside crossing h sample }
 
 -- why a surface has no room for a need
-abbrev pub room_refusal : Tables → Need → ℕ → Option Refusal
+abbrev pub room_refusal : Tables → Counts → ℕ → Option Refusal
 room_refusal s n cell = lack n (free s.numbered.entries) (room_left (length s.numbered.vertices) s.numbered.count) (room_left (length s.triangles) s.count) cell
 
 -- why a cell cannot be marched: there is no such cell, no mark for it, or it is marched already
@@ -68,7 +67,7 @@ marched f s cell = record {
 }
 
 -- a march that took `s` to `t` and answered so
-abbrev pub March : Field → State → ℕ → Result Need Refusal → State → Type 0
+abbrev pub March : Field → State → ℕ → Result Counts Refusal → State → Type 0
 March f s cell (Err e) t = (march_refusal f s cell ≡ Some e) × (t ≡ s)
 March f s cell (Ok n) t =
     (march_refusal f s cell ≡ None)
@@ -81,5 +80,5 @@ unfoldable pub begun : Sides → ℕ → ℕ → List Vertex → List (Triangle 
 begun s marks entries vs ts = record {
   sides = s;
   marks = replicate marks false;
-  tables = tables (numbering (replicate entries Free) vs 0) ts 0;
+  tables = tables (numbering (replicate entries None) vs 0) ts 0;
 }

@@ -9,11 +9,11 @@ use Rattle.mesh.specs.declared.records.Vertex.{Vertex}
 
 -- the map's entries, and the vertex records with how many are taken
 pub record Numbering : Type 0 where
-  pub entries : List (Entry GridEdge)
+  pub entries : List (Option (Entry GridEdge))
   pub vertices : List Vertex
   pub count : ℕ
 
-abbrev pub numbering : List (Entry GridEdge) → List Vertex → ℕ → Numbering
+abbrev pub numbering : List (Option (Entry GridEdge)) → List Vertex → ℕ → Numbering
 numbering es vs n = record { entries = es; vertices = vs; count = n }
 
 -- these, and the triangle records with how many are taken

@@ -1,4 +1,4 @@
-ghost use Rattle.std.specs.Prelude.{◌≡◌, ℕ, ◌≤◌, length, take};
+ghost use Rattle.std.specs.Prelude.{◌≡◌, ℕ, take};
 ghost use Rattle.surface.specs.Questions.{RecordAnswer};
 ghost use Rattle.surface.specs.Views.{state};
 
@@ -8,25 +8,6 @@ use grid::Triangle;
 use mesh::Vertex;
 use refusal::Refusal;
 
-// The record of a number, of those below the count.
-fn record_at<T: Copy>(items: &[T], count: u32, n: u32) -> Result<T, Refusal>
-    requires { count ≤ length items.now }
-    ensures { RecordAnswer items.now count n result }
-{
-    if n >= count {
-        return Err(Refusal::Outside(n));
-    }
-    Ok(items[n as usize])
-}
-
-// The records below the count.
-fn taken<T>(items: &[T], count: u32) -> &[T]
-    requires { count ≤ length items.now }
-    ensures { result.now ≡ take count items.now }
-{
-    &items[0..count as usize]
-}
-
 impl Surface<'_> {
     // How many vertices and triangles there are.
     pub fn counts(&self) -> Counts
@@ -34,8 +15,8 @@ impl Surface<'_> {
         ensures triangles { result.triangles ≡ (state self.now).tables.count }
     {
         Counts {
-            vertices: self.vertices.count,
-            triangles: self.triangles.count,
+            vertices: self.tables.numbering.vertices.count,
+            triangles: self.tables.triangles.count,
         }
     }
 
@@ -43,27 +24,27 @@ impl Surface<'_> {
     pub fn vertex(&self, n: u32) -> Result<Vertex, Refusal>
         ensures { RecordAnswer (state self.now).tables.numbered.vertices (state self.now).tables.numbered.count n result }
     {
-        record_at(self.vertices.items, self.vertices.count, n)
+        self.tables.numbering.vertices.get(n)
     }
 
     // The triangle of a number.
     pub fn triangle(&self, n: u32) -> Result<Triangle<u32>, Refusal>
         ensures { RecordAnswer (state self.now).tables.triangles (state self.now).tables.count n result }
     {
-        record_at(self.triangles.items, self.triangles.count, n)
+        self.tables.triangles.get(n)
     }
 
     // All vertices, in the order of their numbers.
     pub fn vertices(&self) -> &[Vertex]
         ensures { result.now ≡ take (state self.now).tables.numbered.count (state self.now).tables.numbered.vertices }
     {
-        taken(self.vertices.items, self.vertices.count)
+        self.tables.numbering.vertices.as_slice()
     }
 
     // All triangles, in the order of their numbers.
     pub fn triangles(&self) -> &[Triangle<u32>]
         ensures { result.now ≡ take (state self.now).tables.count (state self.now).tables.triangles }
     {
-        taken(self.triangles.items, self.triangles.count)
+        self.tables.triangles.as_slice()
     }
 }

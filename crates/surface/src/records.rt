@@ -1,11 +1,15 @@
-ghost use Rattle.std.specs.Prelude.{◌≡◌, ℕ, ◌+◌, ◌-◌, ◌<◌, ◌≤◌, min, length, slice_set};
+ghost use Rattle.std.specs.Prelude.{◌≡◌, ℕ, ◌+◌, ◌-◌, ◌<◌, ◌≤◌, min, length, slice_set, take};
+ghost use Rattle.surface.specs.Questions.{RecordAnswer};
 ghost use Rattle.surface.specs.Rooms.{room_left};
+
+use refusal::Refusal;
 
 // Records in a lent slice, and how many of them are taken.
 #[derive(Drop)]
 pub struct Records<'a, T> {
-    pub items: &'a mut [T],
-    pub count: u32,
+    pub(crate) items: &'a mut [T],
+    pub(crate) count: u32,
+    ghost fits: { count ≤ length items.now },
 }
 
 impl<'a, T: Copy> Records<'a, T> {
@@ -26,6 +30,23 @@ impl<'a, T: Copy> Records<'a, T> {
             .len()
             .min(4_294_967_295)
             .saturating_sub(self.count as usize)
+    }
+
+    // The record of a number, of those taken.
+    pub fn get(&self, n: u32) -> Result<T, Refusal>
+        ensures { RecordAnswer self.now.items.now self.now.count n result }
+    {
+        if n >= self.count {
+            return Err(Refusal::Outside(n));
+        }
+        Ok(self.items[n as usize])
+    }
+
+    // The records taken, in the order of their numbers.
+    pub fn as_slice(&self) -> &[T]
+        ensures { result.now ≡ take self.now.count self.now.items.now }
+    {
+        &self.items[0..self.count as usize]
     }
 
     // Takes the next record.

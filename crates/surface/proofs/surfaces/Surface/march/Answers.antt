@@ -1,38 +1,35 @@
 use Rattle.std.proofs.Common.{◌≡◌, Some, None, Err, sym, refl, ap, ◌∙◌}
-use Rattle.grid.specs.declared.shapes.Shape.{Shape}
-use Rattle.grid.specs.Shapes.{sides, shapes_refusal}
-use Rattle.surface.specs.Marches.{field, March}
+use Rattle.std.proofs.lemmas.Result.{err_from_is_err_and}
+use Rattle.grid.specs.Points.{Sides}
+use Rattle.grid.specs.Shapes.{shapes_refusal}
+use Rattle.surface.specs.Marches.{March}
 use Rattle.surface.specs.Views.{state}
-use Rattle.surface.proofs.Kept.{bounded, march_keeps}
+use Rattle.surface.proofs.Kept.{march_keeps}
 use Rattle.surface.proofs.Marching.{refused_shape, refused_cell}
 use Rattle.surface.proofs.surfaces.Surface.march.Goals as goal
 
-pub returns-in-Some : goal.returns-in-Some
-returns-in-Some g c =
-    let k = g.V.Kind.SampleKind in
-    let f = field k.inside k.crossing c.args.level.now (sides (g.V.Volume.shaped c.args.volume.now)) (g.V.Volume.sample c.args.volume.now) in
+pub returns-in_err-check_same : goal.returns-in_err-check_same
+returns-in_err-check_same g c =
+    let f = g.F.Field.field c.args.field.now in
     let s = state c.args.self.now in
-    let bound = bounded k.inside k.crossing c.args.level.now f.sides (g.V.Volume.sample c.args.volume.now) c.shape.ensures.border in
-    let shape : shapes_refusal s.sides f.sides ≡ Some c.in-Some.why =
-    ap (λ (t : Shape). shapes_refusal s.sides (sides t)) (sym c.shape.ensures.is) ∙ sym c.refuses.ensures ∙ c.in-Some.is in
-    let m : March f s c.args.cell (Err c.in-Some.why) s = (refused_shape f s c.args.cell c.in-Some.why shape, refl) in
-    record { is = m; skin = march_keeps f s s c.args.cell (Err c.in-Some.why) bound m }
+    let shape : shapes_refusal s.sides f.sides ≡ Some c.in_err-check_same.field-0.0 = ap (λ (n : Sides). shapes_refusal s.sides n) (sym c.shape.ensures) ∙ c.in_err-check_same.ensures in
+    let p = err_from_is_err_and c.from_residual.result c.from_residual.ensures.1 in
+    rw (p.1, p.2)
+    (let m : March f s c.args.cell (Err c.in_err-check_same.field-0.0) s = (refused_shape f s c.args.cell c.in_err-check_same.field-0.0 shape, refl) in
+    record { is = m; skin = march_keeps f s s c.args.cell (Err c.in_err-check_same.field-0.0) (g.met.F.Field.bounded c.args.field.now) m })
 
-pub returns-in-Ok : goal.returns-in-Ok
-returns-in-Ok g c =
-    let k = g.V.Kind.SampleKind in
-    let f = field k.inside k.crossing c.args.level.now (sides (g.V.Volume.shaped c.args.volume.now)) (g.V.Volume.sample c.args.volume.now) in
+pub returns-in_err-at : goal.returns-in_err-at
+returns-in_err-at g c =
+    let f = g.F.Field.field c.args.field.now in
     let s = state c.args.self.now in
-    let bound = bounded k.inside k.crossing c.args.level.now f.sides (g.V.Volume.sample c.args.volume.now) c.shape.ensures.border in
-    record { is = c.march_at.ensures; skin = march_keeps f s (state c.march_at.new.self) c.args.cell c.march_at.result bound c.march_at.ensures }
+    let shape : shapes_refusal s.sides f.sides ≡ None = ap (λ (n : Sides). shapes_refusal s.sides n) (sym c.shape.ensures) ∙ c.in_ok-check_same.ensures in
+    let p = err_from_is_err_and c.from_residual-in_err-at.result c.from_residual-in_err-at.ensures.1 in
+    rw (p.1, p.2)
+    (let m : March f s c.args.cell (Err c.in_err-at.field-0.0) s = (refused_cell f s c.args.cell c.in_err-at.field-0.0 shape c.in_err-at.ensures, refl) in
+    record { is = m; skin = march_keeps f s s c.args.cell (Err c.in_err-at.field-0.0) (g.met.F.Field.bounded c.args.field.now) m })
 
-pub returns-in-Err : goal.returns-in-Err
-returns-in-Err g c =
-    let k = g.V.Kind.SampleKind in
-    let f = field k.inside k.crossing c.args.level.now (sides (g.V.Volume.shaped c.args.volume.now)) (g.V.Volume.sample c.args.volume.now) in
+pub returns : goal.returns
+returns g c =
+    let f = g.F.Field.field c.args.field.now in
     let s = state c.args.self.now in
-    let bound = bounded k.inside k.crossing c.args.level.now f.sides (g.V.Volume.sample c.args.volume.now) c.shape.ensures.border in
-    let shape : shapes_refusal s.sides f.sides ≡ None =
-    ap (λ (t : Shape). shapes_refusal s.sides (sides t)) (sym c.shape.ensures.is) ∙ sym c.refuses.ensures ∙ c.in_default.is in
-    let m : March f s c.args.cell (Err c.in-Err.why) s = (refused_cell f s c.args.cell c.in-Err.why shape c.in-Err.ensures, refl) in
-    record { is = m; skin = march_keeps f s s c.args.cell (Err c.in-Err.why) bound m }
+    record { is = c.march_at.ensures; skin = march_keeps f s (state c.march_at.new.self) c.args.cell c.march_at.result (g.met.F.Field.bounded c.args.field.now) c.march_at.ensures }

@@ -1,20 +1,16 @@
 use Rattle.std.proofs.Common.{refl, ◌∙◌, arith}
-use Rattle.surface.specs.Answers.{place}
 use Rattle.surface.proofs.Namings.{added_none, added_more, added_all_of, added_count}
-use Rattle.surface.proofs.naming.add_all.Goals as goal
+use Rattle.surface.proofs.tables.Tables.add_all.Goals as goal
 
 pub loop-triangle-init : goal.loop-triangle-init
-loop-triangle-init g c =
-    let k = g.V.Kind.SampleKind in
-    (added_none (place k.inside k.crossing c.args.level.now (g.V.Volume.sample c.args.volume.now)) _, omega arith, refl, refl, refl, refl)
+loop-triangle-init g c = (added_none (g.F.Field.field c.args.field.now).place _, omega arith, refl, refl, refl, refl)
 
 pub loop-triangle-preserved : goal.loop-triangle-preserved
 loop-triangle-preserved g c =
-    let k = g.V.Kind.SampleKind in
-    let p = place k.inside k.crossing c.args.level.now (g.V.Volume.sample c.args.volume.now) in
+    let p = (g.F.Field.field c.args.field.now).place in
     let l = c.loop-triangle in
     let inv = l.invariant in
-    let done = c.add_triangle.ensures in
+    let done = c.add.ensures in
     let count = added_count p _ _ _ done.after in (
       added_more p _ _ _ c.args.list.now l.triangle-index _ c.loop-triangle-test.true inv.0 done.after,
       omega (arith, count),
@@ -26,10 +22,9 @@ loop-triangle-preserved g c =
 
 pub returns : goal.returns
 returns g c =
-    let k = g.V.Kind.SampleKind in
     let l = c.loop-triangle in
     record {
-      after = added_all_of (place k.inside k.crossing c.args.level.now (g.V.Volume.sample c.args.volume.now)) _ _ c.args.list.now l.triangle-index c.loop-triangle-test.false l.invariant.0;
+      after = added_all_of (g.F.Field.field c.args.field.now).place _ _ c.args.list.now l.triangle-index c.loop-triangle-test.false l.invariant.0;
       same_map = l.invariant.3;
       same_vertices = l.invariant.4;
       same_triangles = l.invariant.5;
