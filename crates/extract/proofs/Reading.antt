@@ -16,6 +16,9 @@ use Rattle.surface.specs.Marches.{Field, field}
 use Rattle.volume.specs.declared.fractions.Fraction.{Fraction}
 use Rattle.volume.specs.Files.{file_kind, file_sides, file_refusal, body_refusal, sample_count, length_due, density_samples, label_samples}
 use Rattle.volume.specs.Volumes.{table_sample, table_place, entry_sample}
+use Rattle.std.specs.Global.{Vec}
+use Rattle.extract.specs.declared.failures.Failure.{Failure}
+use Rattle.extract.specs.Answers.{Answers}
 use Rattle.extract.specs.Output.{density_field, label_field, field_page, refuse_or, file_page}
 
 -- entries past the end of what was read are missing
@@ -112,9 +115,8 @@ pub length_label : (b : List ℕ) → length (label_samples b) ≡ sample_count 
 length_label b = length-map (range_with_len 0 (sample_count (file_sides b))) _ ∙ length-range_with_len 0 (sample_count (file_sides b))
 
 -- what a page answers, of one field or another
-pub answered : {V A : Type 0} (items : V → List ℕ) (r : Result (Result V Refusal) A) (x y : Result (List ℕ) Refusal) → x ≡ y
-    → IfOk r (λ q. MatchResult q (λ v. x ≡ Ok (items v)) (λ e. x ≡ Err e)) → IfOk r (λ q. MatchResult q (λ v. y ≡ Ok (items v)) (λ e. y ≡ Err e))
-answered items r x y p h = subst (λ (z : Result (List ℕ) Refusal). IfOk r (λ q. MatchResult q (λ v. z ≡ Ok (items v)) (λ e. z ≡ Err e))) p h
+pub answered : (r : Result (Vec ℕ) Failure) (x y : Result (List ℕ) Refusal) → x ≡ y → Answers x r → Answers y r
+answered r x y p h = subst (λ (z : Result (List ℕ) Refusal). Answers z r) p h
 
 -- what is like a missing entry is missing
 pub missing : {E : Type 0} (Like : Option E → Type 0) → ((x : E) → Like (Some x) → ⊥) → (y : Option E) → Like y → y ≡ None

@@ -1,11 +1,11 @@
 -- What `skin` writes: the page of a volume file's skin, or the refusal.
-use Rattle.std.specs.Prelude.{ℕ, cond, List, ◌++◌, length, replicate, Some, None, Ok, Err, codes, decimal, Option, Result, ◌==◌, nat_lt}
+use Rattle.std.specs.Prelude.{ℕ, cond, List, ◌++◌, length, replicate, Some, None, Ok, Err, codes, Option, Result, ◌==◌, nat_lt}
 use Rattle.grid.specs.declared.geometry.GridEdge.{GridEdge}
 use Rattle.grid.specs.declared.geometry.Triangle.{Triangle}
 use Rattle.refusal.specs.declared.refusals.Refusal.{Refusal}
 use Rattle.refusal.specs.declared.refusals.Refusal.TheVariants.{TableRoom}
 use Rattle.grid.specs.Points.{Sides}
-use Rattle.refusal.specs.Refusals.{code}
+use Rattle.refusal.specs.Refusals.{line}
 use Rattle.mesh.specs.declared.records.Vertex.{Vertex}
 use Rattle.surface.specs.Marches.{State, Field, field, begun}
 use Rattle.volume.specs.Files.{file_kind, file_sides, file_refusal, density_level, density_samples, label_level, label_samples}
@@ -47,12 +47,9 @@ file_page b =
     cond (nat_lt 4096 (length b)) (Err (TableRoom 4096))
     (refuse_or (file_refusal b 1024 1024) (cond (file_kind b == 1) (field_page (density_field b)) (field_page (label_field b))))
 
--- `refused n p`: the number of a refusal, and its place
-abbrev pub report_line : ℕ → ℕ → List ℕ
-report_line number place = codes "refused " ++ (decimal number ++ (codes " " ++ (decimal place ++ codes "\n")))
-
+-- `refused n p` on a line: the number of a refusal, and its place
 abbrev pub refused_line : Refusal → List ℕ
-refused_line e = report_line (code e).0 (code e).1
+refused_line e = line e ++ codes "\n"
 
 abbrev pub written : Result (List ℕ) Refusal → List ℕ
 written (Ok text) = text

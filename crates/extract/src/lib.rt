@@ -1,6 +1,7 @@
 #![tactic(auto)]
 
 mod cells;
+mod failures;
 mod files;
 
 pub use files::skin;
