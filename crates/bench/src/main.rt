@@ -5,11 +5,10 @@
 mod measuring;
 
 use crate::measuring::measure;
-use anyhow::anyhow;
 use grid::{Point, Shape};
 use std::alloc::{AllocError, Global};
 use std::env;
-use volume::{Density, Phantom, TableVolume, Volume};
+use volume::{AtLevel, Density, Phantom, TableVolume, Volume};
 
 // The density at the skin: a ball of radius 120.
 const LEVEL: u16 = 51_135;
@@ -20,10 +19,7 @@ fn samples(heap: Global, ball: &Phantom) -> Result<Vec<Option<u16>>, AllocError>
     for z in 1..255 {
         for y in 1..255 {
             for x in 1..255 {
-                let entry = match ball.sample_at(Point { x, y, z }) {
-                    Some(sample) => Some(sample.value),
-                    None => None,
-                };
+                let entry = ball.sample_at(Point { x, y, z }).map(|sample| sample.value);
                 entries.push(entry)?;
             }
         }
@@ -40,9 +36,7 @@ fn rounds(rt: &HostRuntime) -> anyhow::Result<u32> {
 }
 
 fn main(rt: HostRuntime) -> anyhow::Result<()> {
-    let Ok(shape) = Shape::new(254, 254, 254) else {
-        return Err(anyhow!("no such shape"));
-    };
+    let shape = Shape::new(254, 254, 254)?;
     let ball = Phantom {
         shape,
         cx: 126,
@@ -50,11 +44,19 @@ fn main(rt: HostRuntime) -> anyhow::Result<()> {
         cz: 126,
     };
     let rounds = rounds(&rt)?;
-    measure(&rt, "phantom", &ball, &LEVEL, rounds)?;
+    let field = AtLevel {
+        volume: &ball,
+        level: LEVEL,
+    };
+    measure(&rt, "phantom", &field, rounds)?;
     let entries = samples(rt.alloc(), &ball)?;
     let table = TableVolume::<Density> {
         shape,
         entries: &entries,
     };
-    measure(&rt, "table", &table, &LEVEL, rounds)
+    let field = AtLevel {
+        volume: &table,
+        level: LEVEL,
+    };
+    measure(&rt, "table", &field, rounds)
 }

@@ -1,11 +1,9 @@
-use anyhow::anyhow;
-use grid::{GridEdge, Point, Triangle};
+use grid::{GridEdge, Triangle};
 use keymap::Entry;
-use mesh::{Coordinates, Vertex};
+use mesh::Vertex;
 use refusal::Refusal;
 use std::time::Instant;
-use surface::{Counts, Surface};
-use volume::{SampleKind, Volume};
+use surface::{Counts, Field, Surface};
 
 // The sizes of the tables.
 const ENTRIES: usize = 2_097_152;
@@ -14,50 +12,43 @@ const VERTICES: usize = 1_000_000;
 
 const TRIANGLES: usize = 2_000_000;
 
-const NO_VERTEX: Vertex = Vertex {
-    edge: GridEdge {
-        low: Point { x: 0, y: 0, z: 0 },
-        direction: 0,
-    },
-    at: Coordinates { x: 0, y: 0, z: 0 },
-};
-
-const NO_TRIANGLE: Triangle<u32> = Triangle { a: 0, b: 0, c: 0 };
-
-// Lays the whole skin of a volume, cells in rising order, and answers its counts.
-fn lay<V: Volume>(
-    volume: &V,
-    level: &<V::Kind as SampleKind>::Level,
+// Lays the whole skin of a field, cells in rising order, and answers its counts.
+fn lay<F: Field>(
+    field: &F,
     marks: &mut [bool],
-    entries: &mut [Entry<GridEdge>],
+    entries: &mut [Option<Entry<GridEdge>>],
     vertices: &mut [Vertex],
     triangles: &mut [Triangle<u32>],
 ) -> Result<Counts, Refusal> {
-    let mut surface = Surface::begin(volume.shape(), marks, entries, vertices, triangles);
-    for cell in 0..volume.shape().cell_count() {
-        surface.march(volume, level, cell)?;
+    let mut surface = Surface::begin(field.shape(), marks, entries, vertices, triangles);
+    for cell in 0..field.shape().cell_count() {
+        surface.march(field, cell)?;
     }
     Ok(surface.counts())
 }
 
 // Lays the skin so many times over, and prints its counts and, if it was laid more than once, the least time.
-fn repeat<V: Volume>(
+pub fn measure<F: Field>(
     rt: &HostRuntime,
     name: &str,
-    volume: &V,
-    level: &<V::Kind as SampleKind>::Level,
+    field: &F,
     rounds: u32,
-    marks: &mut [bool],
-    entries: &mut [Entry<GridEdge>],
-    vertices: &mut [Vertex],
-    triangles: &mut [Triangle<u32>],
 ) -> anyhow::Result<()> {
+    let heap = rt.alloc();
+    let mut marks = vec![in heap; false; field.shape().cell_count() as usize]?;
+    let mut entries = vec![in heap; None; ENTRIES]?;
+    let mut vertices = vec![in heap; Vertex::default(); VERTICES]?;
+    let mut triangles = vec![in heap; Triangle::default(); TRIANGLES]?;
     let mut least = u128::MAX;
     for round in 0..rounds {
         let start = Instant::now(rt)?;
-        let Ok(counts) = lay(volume, level, marks, entries, vertices, triangles) else {
-            return Err(anyhow!("a march was refused"));
-        };
+        let counts = lay(
+            field,
+            &mut marks,
+            &mut entries,
+            &mut vertices,
+            &mut triangles,
+        )?;
         least = least.min(start.elapsed(rt)?.as_micros());
         if round == 0 {
             let (v, f) = (counts.vertices, counts.triangles);
@@ -68,31 +59,4 @@ fn repeat<V: Volume>(
         println!(rt; "{name}: {least} microseconds")?;
     }
     Ok(())
-}
-
-// Makes the tables, and measures.
-pub fn measure<V: Volume>(
-    rt: &HostRuntime,
-    name: &str,
-    volume: &V,
-    level: &<V::Kind as SampleKind>::Level,
-    rounds: u32,
-) -> anyhow::Result<()> {
-    let heap = rt.alloc();
-    let cells = volume.shape().cell_count() as usize;
-    let mut marks = vec![in heap; false; cells]?;
-    let mut entries = vec![in heap; Entry::Free; ENTRIES]?;
-    let mut vertices = vec![in heap; NO_VERTEX; VERTICES]?;
-    let mut triangles = vec![in heap; NO_TRIANGLE; TRIANGLES]?;
-    repeat(
-        rt,
-        name,
-        volume,
-        level,
-        rounds,
-        &mut marks,
-        &mut entries,
-        &mut vertices,
-        &mut triangles,
-    )
 }

@@ -4,15 +4,12 @@
 mod study;
 
 use crate::study::{judge, study};
-use anyhow::anyhow;
 use grid::{Shape, Triangle};
-use volume::{Density, Label, Phantom, TableVolume};
+use volume::{AtLevel, Label, Phantom, TableVolume};
 
 // A ball of radius 7 in a block of 20 samples a side.
 fn ball(rt: &HostRuntime) -> anyhow::Result<()> {
-    let Ok(shape) = Shape::new(20, 20, 20) else {
-        return Err(anyhow!("no such shape"));
-    };
+    let shape = Shape::new(20, 20, 20)?;
     let phantom = Phantom {
         shape,
         cx: 9,
@@ -20,7 +17,13 @@ fn ball(rt: &HostRuntime) -> anyhow::Result<()> {
         cz: 9,
     };
     println!(rt; "ball: a phantom of 20 x 20 x 20 samples, centre 9 9 9, at level 65486")?;
-    study(rt, &phantom, &65_486)
+    study(
+        rt,
+        &AtLevel {
+            volume: &phantom,
+            level: 65_486,
+        },
+    )
 }
 
 // Whether the sample is one of the part's: a block of 7 x 5 x 5 with a hole through it along y and, beside that, a hollow.
@@ -32,9 +35,7 @@ fn is_metal(x: usize, y: usize, z: usize) -> bool {
 
 // That block as a table of labels: 1 for metal, and nothing was measured in the hollow.
 fn part(rt: &HostRuntime) -> anyhow::Result<()> {
-    let Ok(shape) = Shape::new(7, 5, 5) else {
-        return Err(anyhow!("no such shape"));
-    };
+    let shape = Shape::new(7, 5, 5)?;
     let mut entries: Vec<Option<u8>> = Vec::new(rt.alloc());
     for z in 0..5 {
         for y in 0..5 {
@@ -49,7 +50,13 @@ fn part(rt: &HostRuntime) -> anyhow::Result<()> {
         entries: &entries,
     };
     println!(rt; "part: a table of 7 x 5 x 5 labels with a hole and a hollow, at level 1")?;
-    study(rt, &volume, &1)
+    study(
+        rt,
+        &AtLevel {
+            volume: &volume,
+            level: 1,
+        },
+    )
 }
 
 // A tetrahedron that lacks a side.

@@ -1,11 +1,14 @@
 use census::{Census, take};
 use grid::Shape;
-use volume::{Density, TableVolume};
+use volume::{AtLevel, Density, TableVolume};
 
 // The census at level 5 of a block of densities.
 fn census(shape: Shape, entries: &[Option<u16>]) -> Census {
     let volume: TableVolume<Density> = TableVolume { shape, entries };
-    take(&volume, &5)
+    take(&AtLevel {
+        volume: &volume,
+        level: 5,
+    })
 }
 
 const ONE: Shape = Shape {

@@ -35,7 +35,10 @@ fn with_room(
     entries: usize,
     places: usize,
 ) -> Result<Verdict, Refusal> {
-    let mut edges = [Entry::Held(DirectedEdge { from: 0, to: 1 }, 7); 24];
+    let mut edges = [Some(Entry {
+        key: DirectedEdge { from: 0, to: 1 },
+        number: 7,
+    }); 24];
     let mut records = [BLANK; 8];
     inspect(
         vertex_count,

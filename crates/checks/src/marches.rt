@@ -2,10 +2,10 @@ use crate::tables::{Sizes, last_march, verdict};
 use grid::{GridEdge, Shape, Triangle};
 use keymap::Entry;
 use mesh::{Counts, Verdict, Vertex};
-use refusal::Refusal;
+use refusal::{Axis, Refusal};
 use std::mem::size_of;
 use std::test::Fail;
-use surface::Need;
+use surface::Counts as Added;
 
 const ROOM: Sizes = Sizes {
     marks: 8,
@@ -20,14 +20,14 @@ fn marches_refuse(rt: HostRuntime) -> Result<(), Fail> {
     let heap = rt.alloc();
     let one = Shape::new(1, 1, 1)?;
     let two = Shape::new(1, 2, 1)?;
-    let need = Need {
+    let added = Added {
         vertices: 7,
         triangles: 6,
     };
-    assert_eq!(rt; last_march(heap, ROOM, one, one, &[0])?, Ok(need));
+    assert_eq!(rt; last_march(heap, ROOM, one, one, &[0])?, Ok(added));
     assert_eq!(rt;
         last_march(heap, ROOM, one, two, &[0])?,
-        Err(Refusal::OtherShape(1))
+        Err(Refusal::OtherShape(Axis::Y))
     );
     assert_eq!(rt;
         last_march(heap, ROOM, one, one, &[8])?,
@@ -77,7 +77,7 @@ fn marches_refuse(rt: HostRuntime) -> Result<(), Fail> {
 // The records are small: 12 bytes an entry, 16 a vertex, 12 a triangle.
 #[test]
 fn records_are_small(rt: HostRuntime) {
-    assert!(rt; size_of::<Entry<GridEdge>>() <= 12);
+    assert!(rt; size_of::<Option<Entry<GridEdge>>>() <= 12);
     assert!(rt; size_of::<Vertex>() <= 16);
     assert!(rt; size_of::<Triangle<u32>>() <= 12);
 }

@@ -1,26 +1,10 @@
-use grid::{GridEdge, Point, Shape, Triangle};
+use grid::{Shape, Triangle};
 use keymap::Entry;
-use mesh::{Coordinates, DirectedEdge, Verdict, Vertex, VertexRecord, inspect};
+use mesh::{DirectedEdge, Verdict, Vertex, VertexRecord, inspect};
 use refusal::Refusal;
 use std::alloc::{AllocError, Global};
-use surface::{Need, Surface};
-use volume::{Label, TableVolume};
-
-const NO_VERTEX: Vertex = Vertex {
-    edge: GridEdge {
-        low: Point { x: 0, y: 0, z: 0 },
-        direction: 0,
-    },
-    at: Coordinates { x: 0, y: 0, z: 0 },
-};
-
-const NO_TRIANGLE: Triangle<u32> = Triangle { a: 0, b: 0, c: 0 };
-
-const NO_RECORD: VertexRecord = VertexRecord {
-    parent: 0,
-    neighbour: 0,
-    degree: 0,
-};
+use surface::{Counts, Surface};
+use volume::{AtLevel, Label, TableVolume};
 
 // The lengths of the four tables of a surface.
 #[derive(Clone, Copy)]
@@ -38,11 +22,11 @@ pub fn last_march(
     shape: Shape,
     of: Shape,
     cells: &[u32],
-) -> Result<Result<Need, Refusal>, AllocError> {
+) -> Result<Result<Counts, Refusal>, AllocError> {
     let mut marks = vec![in heap; false; sizes.marks]?;
-    let mut entries = vec![in heap; Entry::Free; sizes.entries]?;
-    let mut vertices = vec![in heap; NO_VERTEX; sizes.vertices]?;
-    let mut triangles = vec![in heap; NO_TRIANGLE; sizes.triangles]?;
+    let mut entries = vec![in heap; None; sizes.entries]?;
+    let mut vertices = vec![in heap; Vertex::default(); sizes.vertices]?;
+    let mut triangles = vec![in heap; Triangle::default(); sizes.triangles]?;
     let samples = vec![in heap; Some(5u8); 8]?;
     let volume = TableVolume::<Label> {
         shape: of,
@@ -55,12 +39,13 @@ pub fn last_march(
         &mut vertices,
         &mut triangles,
     );
-    let mut answer = Ok(Need {
-        vertices: 0,
-        triangles: 0,
-    });
+    let field = AtLevel {
+        volume: &volume,
+        level: 5,
+    };
+    let mut answer = Ok(Counts::default());
     for cell in cells {
-        answer = surface.march(&volume, &5, *cell);
+        answer = surface.march(&field, *cell);
     }
     Ok(answer)
 }
@@ -73,9 +58,9 @@ pub fn verdict(
 ) -> Result<Result<Verdict, Refusal>, AllocError> {
     let cells = shape.cell_count();
     let mut marks = vec![in heap; false; cells as usize]?;
-    let mut entries = vec![in heap; Entry::Free; 1024]?;
-    let mut vertices = vec![in heap; NO_VERTEX; 512]?;
-    let mut triangles = vec![in heap; NO_TRIANGLE; 1024]?;
+    let mut entries = vec![in heap; None; 1024]?;
+    let mut vertices = vec![in heap; Vertex::default(); 512]?;
+    let mut triangles = vec![in heap; Triangle::default(); 1024]?;
     let volume = TableVolume::<Label> {
         shape,
         entries: samples,
@@ -87,13 +72,17 @@ pub fn verdict(
         &mut vertices,
         &mut triangles,
     );
+    let field = AtLevel {
+        volume: &volume,
+        level: 1,
+    };
     for cell in (0..cells).rev() {
-        if let Err(why) = surface.march(&volume, &1, cell) {
+        if let Err(why) = surface.march(&field, cell) {
             return Ok(Err(why));
         }
     }
-    let mut edges: Vec<Entry<DirectedEdge>> = vec![in heap; Entry::Free; 3072]?;
-    let mut records = vec![in heap; NO_RECORD; 512]?;
+    let mut edges: Vec<Option<Entry<DirectedEdge>>> = vec![in heap; None; 3072]?;
+    let mut records = vec![in heap; VertexRecord::default(); 512]?;
     let count = surface.counts().vertices;
     Ok(inspect(count, surface.triangles(), &mut edges, &mut records))
 }

@@ -1,5 +1,5 @@
 use grid::{Point, Shape};
-use refusal::Refusal;
+use refusal::{Axis, Part, Refusal};
 use std::test::Fail;
 use volume::{
     Density, FileHeader, Fraction, Label, Phantom, Ratio, RatioParts, SampleKind, TableVolume,
@@ -38,9 +38,18 @@ fn label_and_ratio_crossings(rt: HostRuntime) {
 #[test]
 fn ratio_parts(rt: HostRuntime) {
     assert_eq!(rt; Ratio::new(4095, 4095), Ok(Ratio { n: 4095, d: 4095 }));
-    assert_eq!(rt; Ratio::new(4096, 0), Err(Refusal::RatioPart(0)));
-    assert_eq!(rt; Ratio::new(1, 0), Err(Refusal::RatioPart(1)));
-    assert_eq!(rt; Ratio::new(1, 4096), Err(Refusal::RatioPart(1)));
+    assert_eq!(rt;
+        Ratio::new(4096, 0),
+        Err(Refusal::RatioPart(Part::Numerator))
+    );
+    assert_eq!(rt;
+        Ratio::new(1, 0),
+        Err(Refusal::RatioPart(Part::Denominator))
+    );
+    assert_eq!(rt;
+        Ratio::new(1, 4096),
+        Err(Refusal::RatioPart(Part::Denominator))
+    );
     assert_eq!(rt; Ratio::load(&RatioParts { n: 0, d: 0 }), None);
 }
 
@@ -121,7 +130,10 @@ fn refusal_of(bytes: &[u8]) -> Option<Refusal> {
 fn file_refusals(rt: HostRuntime) {
     assert_eq!(rt; refusal_of(b"\x01\x01\x01"), Some(Refusal::FileLength(4)));
     assert_eq!(rt; refusal_of(b"\x03\x00\x01\x01"), Some(Refusal::FileKind));
-    assert_eq!(rt; refusal_of(b"\x01\x01\xff\x00"), Some(Refusal::Side(1)));
+    assert_eq!(rt;
+        refusal_of(b"\x01\x01\xff\x00"),
+        Some(Refusal::Side(Axis::Y))
+    );
     assert_eq!(rt;
         refusal_of(b"\x02\x01\x01\x01\x05"),
         Some(Refusal::FileLength(6))
