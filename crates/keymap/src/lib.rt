@@ -4,5 +4,5 @@
 mod map;
 mod table;
 
-pub use map::KeyMap;
+pub use map::{KeyMap, number_of};
 pub use table::{Entry, Full, Key};

@@ -32,13 +32,43 @@ fn first_end<'e, K: Key>(
     None
 }
 
+// Where probing for `key` ends, and the entry there: from its start entry on, after the last at the first, until the key or a free entry is
+// met.
+fn probe<'e, K: Key>(
+    entries: &'e [Option<Entry<K>>],
+    key: &K,
+) -> Option<(usize, &'e Option<Entry<K>>)>
+    ensures within { IfSome result (λ r. r.0 < length entries.now) }
+    ensures found { option_map (λ r. r.0) result ≡ slot K.meaning K.hashed entries.now (K.meaning key.now) }
+    ensures entry { IfSome result (λ r. r.1.now ≡ slice_index_or entries.now r.0 None) }
+{
+    let n = entries.len();
+    if n == 0 {
+        return None;
+    }
+    let start = key.hash().wrapping_mul(2_654_435_761) as usize % n;
+    let (before, after) = entries.split_at(start);
+    match first_end(after, key) {
+        Some((i, entry)) => Some((start + i, entry)),
+        None => first_end(before, key),
+    }
+}
+
+// The number that `entries` hold for `key`.
+pub fn number_of<K: Key>(entries: &[Option<Entry<K>>], key: &K) -> Option<u32>
+    ensures { result ≡ lookup K.meaning K.hashed entries.now (K.meaning key.now) }
+{
+    let (_, entry) = probe(entries, key)?;
+    entry.as_ref().map(|held| held.number)
+}
+
 // A map from keys to numbers, in a lent slice of entries, of which those that hold no key are free.
 #[derive(Drop)]
 pub struct KeyMap<'a, K> {
     entries: &'a mut [Option<Entry<K>>],
 }
 
-impl<'a, K: Key + Drop> KeyMap<'a, K> {
+impl<'a, K: Drop> KeyMap<'a, K> {
     // A map over what `entries` hold.
     pub fn over(entries: &'a mut [Option<Entry<K>>]) -> KeyMap<'a, K>
         ensures value { result.entries.now ≡ entries.old }
@@ -63,33 +93,23 @@ impl<'a, K: Key + Drop> KeyMap<'a, K> {
             *entry = None;
         }
     }
+}
 
-    // Where probing for `key` ends, and the entry there: from its start entry on, after the last at the first, until the key or a free
-    // entry is met.
-    fn find(&self, key: &K) -> Option<(usize, &Option<Entry<K>>)>
-        ensures within { IfSome result (λ r. r.0 < length self.now.entries.now) }
-        ensures found { option_map (λ r. r.0) result ≡ slot K.meaning K.hashed self.now.entries.now (K.meaning key.now) }
-        ensures entry { IfSome result (λ r. r.1.now ≡ slice_index_or self.now.entries.now r.0 None) }
+impl<K: Key + Drop> KeyMap<'_, K> {
+    // The place of the entry at which probing for `key` ends.
+    fn find(&self, key: &K) -> Option<usize>
+        ensures within { IfSome result (λ i. i < length self.now.entries.now) }
+        ensures found { result ≡ slot K.meaning K.hashed self.now.entries.now (K.meaning key.now) }
     {
-        let entries = &*self.entries;
-        let n = entries.len();
-        if n == 0 {
-            return None;
-        }
-        let start = key.hash().wrapping_mul(2_654_435_761) as usize % n;
-        let (before, after) = entries.split_at(start);
-        match first_end(after, key) {
-            Some((i, entry)) => Some((start + i, entry)),
-            None => first_end(before, key),
-        }
+        let (i, _) = probe(self.entries, key)?;
+        Some(i)
     }
 
     // The number held for `key`.
     pub fn get(&self, key: &K) -> Option<u32>
         ensures { result ≡ lookup K.meaning K.hashed self.now.entries.now (K.meaning key.now) }
     {
-        let (_, entry) = self.find(key)?;
-        entry.as_ref().map(|held| held.number)
+        number_of(self.entries, key)
     }
 
     // Holds `number` for `key`, in place of the number held for it, if any. A full map takes no new key, and is left as it is.
@@ -100,7 +120,7 @@ impl<'a, K: Key + Drop> KeyMap<'a, K> {
         ensures full { is_ok result ≡ false → Crowded self.old.entries.now }
         ensures same { self.new.entries.ghost_name ≡ self.old.entries.ghost_name }
     {
-        let (i, _) = self.find(&key).ok_or(Full)?;
+        let i = self.find(&key).ok_or(Full)?;
         self.entries[i] = Some(Entry { key, number });
         Ok(())
     }

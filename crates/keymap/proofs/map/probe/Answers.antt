@@ -1,7 +1,7 @@
 use Rattle.std.proofs.Common.{sym, ap, ◌∙◌, arith}
 use Rattle.std.specs.Option.{option_map}
 use Rattle.keymap.proofs.Seeks.{slot_after, slot_before, slot_empty}
-use Rattle.keymap.proofs.map.KeyMap.find.Goals as goal
+use Rattle.keymap.proofs.map.probe.Goals as goal
 
 pub returns-then-n-eq0-clause-found : goal.returns-then-n-eq0-clause-found
 returns-then-n-eq0-clause-found g c = slot_empty _ _ _ _ (omega arith)
