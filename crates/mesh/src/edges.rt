@@ -1,17 +1,18 @@
-ghost use Rattle.std.specs.Prelude.{◌≡◌, ℕ, ◌*◌, ◌<◌, ◌≤◌, length, IfNone};
+ghost use Rattle.std.specs.Prelude.{◌≡◌, ◌*◌, ◌<◌, ◌≤◌, length, IfNone};
 ghost use Rattle.keymap.specs.Probe.{Sound};
 ghost use Rattle.keymap.specs.Frees.{free};
 ghost use Rattle.mesh.specs.Sides.{edge_ends, edge_hash};
-ghost use Rattle.mesh.specs.Triangles.{triangle_at, Apart};
 ghost use Rattle.mesh.specs.First.{First};
 ghost use Rattle.mesh.specs.Faults.{Doubled, Unpaired};
 ghost use Rattle.mesh.specs.EdgeTables.{found, seen as seen_in, missed as missed_in, Noted, Noting};
 
+use crate::names::NamedMesh;
 use crate::sides::{DirectedEdge, directed_edges};
 use grid::Triangle;
-use keymap::{Full, KeyMap};
+use keymap::KeyMap;
 
 // The vertex that is held for a directed edge: the one that follows it in its triangle.
+#[tactic(auto, unfolding(crate::specs::EdgeTables::found))]
 pub(crate) fn third(map: &KeyMap<'_, DirectedEdge>, edge: DirectedEdge) -> Option<u32>
     ensures { result ≡ found map.now.entries.now edge.from edge.to }
 {
@@ -24,10 +25,7 @@ fn note(map: &mut KeyMap<'_, DirectedEdge>, edge: DirectedEdge, third: u32)
     requires room { 0 < free map.old.entries.now }
     ensures { Noting map.old.entries.now map.new.entries.now edge third }
 {
-    match map.insert(edge, third) {
-        Ok(()) => {}
-        Err(Full) => unreachable(),
-    }
+    map.insert(edge, third).unwrap();
 }
 
 // Whether one of the directed edges of `t` is held.
@@ -41,16 +39,15 @@ fn seen(map: &KeyMap<'_, DirectedEdge>, t: Triangle<u32>) -> bool
 
 // The first triangle with a directed edge of an earlier one. If there is none, the map then holds every directed edge.
 pub(crate) fn first_doubled(
-    triangles: &[Triangle<u32>],
+    mesh: NamedMesh<'_>,
     map: &mut KeyMap<'_, DirectedEdge>,
 ) -> Option<usize>
-    requires different { (k : ℕ) → k < length triangles.now → Apart (triangle_at triangles.now k) }
-    requires room { 3 * length triangles.now ≤ length map.old.entries.now }
-    ensures first { First (Doubled triangles.now) (length triangles.now) result }
-    ensures noted { IfNone result (Noted triangles.now (length triangles.now) map.new.entries.now) }
+    requires { 3 * length mesh.triangles.now ≤ length map.old.entries.now }
+    ensures first { First (Doubled mesh.entry.triangles.now) (length mesh.entry.triangles.now) result }
+    ensures noted { IfNone result (Noted mesh.entry.triangles.now (length mesh.entry.triangles.now) map.new.entries.now) }
 {
     map.clear();
-    for (k, t) in triangles.iter().enumerate() {
+    for (k, t) in mesh.triangles.iter().enumerate() {
         if seen(map, *t) {
             return Some(k);
         }
@@ -72,13 +69,9 @@ fn missed(map: &KeyMap<'_, DirectedEdge>, t: Triangle<u32>) -> bool
 }
 
 // The first triangle with a directed edge that has no reverse.
-pub(crate) fn first_unpaired(
-    triangles: &[Triangle<u32>],
-    map: &KeyMap<'_, DirectedEdge>,
-) -> Option<usize>
-    requires different { (k : ℕ) → k < length triangles.now → Apart (triangle_at triangles.now k) }
-    requires noted { Noted triangles.now (length triangles.now) map.now.entries.now }
-    ensures { First (Unpaired triangles.now) (length triangles.now) result }
+pub(crate) fn first_unpaired(mesh: NamedMesh<'_>, map: &KeyMap<'_, DirectedEdge>) -> Option<usize>
+    requires { Noted mesh.triangles.now (length mesh.triangles.now) map.now.entries.now }
+    ensures { First (Unpaired mesh.entry.triangles.now) (length mesh.entry.triangles.now) result }
 {
-    triangles.iter().position(|t| missed(map, *t))
+    mesh.triangles.iter().position(|t| missed(map, *t))
 }

@@ -86,10 +86,10 @@ fn judge(
         triangles,
     };
     let mut map = KeyMap::over(edges);
-    if let Some(k) = first_doubled(triangles, &mut map) {
+    if let Some(k) = first_doubled(mesh, &mut map) {
         return Verdict::Doubled(k);
     }
-    if let Some(k) = first_unpaired(triangles, &map) {
+    if let Some(k) = first_unpaired(mesh, &map) {
         return Verdict::Unpaired(k);
     }
     let survey = Survey::new(mesh, records);

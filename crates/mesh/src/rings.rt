@@ -66,7 +66,7 @@ fn comes_back_early(map: &KeyMap<'_, DirectedEdge>, v: u32, start: u32, degree: 
     ensures { Decides result (Early map.now.entries.now v start degree) }
 {
     let mut at = start;
-    for i in 1..degree {
+    for _ in 1..degree {
         at = third(map, DirectedEdge { from: v, to: at }).unwrap_or(0);
         if at == start {
             return true;

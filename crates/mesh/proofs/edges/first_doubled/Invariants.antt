@@ -7,6 +7,6 @@ use Rattle.mesh.proofs.edges.first_doubled.Given as goal
 
 abbrev pub invariant-loop-k : goal.invariant-loop-k
 invariant-loop-k l =
-    Clear (Doubled l.triangles) l.k
-    × Noted l.triangles l.k l.map.entries.now
-    × (3 * length l.triangles ≤ free l.map.entries.now + 3 * l.k)
+    Clear (Doubled l.mesh.triangles.now) l.k
+    × Noted l.mesh.triangles.now l.k l.map.entries.now
+    × (3 * length l.mesh.triangles.now ≤ free l.map.entries.now + 3 * l.k)

@@ -2,8 +2,7 @@ use Rattle.std.proofs.Common.{◌≡◌, length, ap, ◌∙◌, arith, rules}
 use Rattle.std.proofs.lemmas.List.{get_or-replicate}
 use Rattle.mesh.specs.declared.verdicts.VertexRecord.{VertexRecord}
 use Rattle.mesh.specs.VertexNotes.{no_record}
-use Rattle.mesh.specs.Triangles.{triangle_at}
-use Rattle.mesh.proofs.Named.{named_apart}
+use Rattle.mesh.proofs.Named.{mesh_apart}
 use Rattle.mesh.proofs.Tallies.{surveyed_none, surveyed_more}
 use Rattle.mesh.proofs.rings.Survey.new.Goals as goal
 
@@ -17,6 +16,6 @@ loop-t-init c =
 pub loop-t-preserved : goal.loop-t-preserved
 loop-t-preserved c =
     surveyed_more c.args.mesh.triangles.now c.loop-t.t-index c.loop-t-test.true
-    (named_apart c.args.mesh.vertices (triangle_at c.args.mesh.triangles.now c.loop-t.t-index) (c.args.mesh.named c.loop-t.t-index c.loop-t-test.true))
+    (mesh_apart c.args.mesh c.loop-t.t-index c.loop-t-test.true)
     c.loop-t.records c.tally.new.records c.tally-in-loop-t.new.records c.tally-in-loop-t-2.new.records (omega arith) c.loop-t.invariant
     c.tally.ensures c.tally-in-loop-t.ensures c.tally-in-loop-t-2.ensures
