@@ -67,12 +67,12 @@ fn put(part: &mut [u8], text: &[u8])
 
 // Writes a text at the first free byte, where there is room for it, and answers the next free byte.
 fn append(buffer: &mut [u8], free: usize, text: &Text) -> Result<usize, Refusal>
-    ensures { TextAnswer (line_refusal None (length text.now.items) free (length buffer.old)) free text.now.items buffer.old buffer.new result }
+    ensures { TextAnswer (line_refusal None (length text.now.bytes) free (length buffer.old)) free text.now.bytes buffer.old buffer.new result }
 {
     if buffer.len() < free || buffer.len() - free < text.len() {
         return Err(Refusal::PageRoom(free as u64));
     }
-    put(&mut buffer[free..], text.as_slice());
+    put(&mut buffer[free..], text.as_bytes());
     Ok(free + text.len())
 }
 

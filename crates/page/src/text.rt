@@ -1,58 +1,51 @@
 ghost use Rattle.std.specs.Prelude.{◌≡◌, ℕ, ◌+◌, ◌≤◌, List, [], ◌∷◌, ◌++◌};
-ghost use Rattle.arrayvec.specs.ArrayVec.{array_vec_len};
+ghost use Rattle.arrayvec.specs.ArrayString.{array_string_len};
 ghost use Rattle.page.specs.Text.{decimal, coordinate, vertex_line, face_line, header};
 
-use arrayvec::ArrayVec;
+use arrayvec::ArrayString;
 use grid::Triangle;
 use itoa::Buffer;
 use mesh::Coordinates;
 
 // The text of a line. The longest, of three coordinates of 25 bytes, takes 78.
-pub type Text = ArrayVec<u8, 80>;
+pub type Text = ArrayString<80>;
 
 // Appends a number in decimal.
 #[tactic(auto, using(crate::proofs::Decimal::decimal_printed))]
 fn push_number(text: &mut Text, n: u64)
-    requires { array_vec_len text.old ≤ 60 }
-    ensures text { text.new.items ≡ text.old.items ++ decimal n }
-    ensures long { array_vec_len text.new ≤ array_vec_len text.old + 20 }
+    requires { array_string_len text.old ≤ 60 }
+    ensures text { text.new.bytes ≡ text.old.bytes ++ decimal n }
+    ensures long { array_string_len text.new ≤ array_string_len text.old + 20 }
 {
     let mut digits = Buffer::new();
-    text.try_extend_from_slice(digits.format(n).as_bytes())
-        .unwrap();
+    text.push_str(digits.format(n));
 }
 
 // Appends a number of ten-thousandths.
 #[tactic(auto, unfolding(crate::specs::Text::coordinate))]
 fn push_coordinate(text: &mut Text, n: u32)
-    requires { array_vec_len text.old ≤ 55 }
-    ensures text { text.new.items ≡ text.old.items ++ coordinate n }
-    ensures long { array_vec_len text.new ≤ array_vec_len text.old + 25 }
+    requires { array_string_len text.old ≤ 55 }
+    ensures text { text.new.bytes ≡ text.old.bytes ++ coordinate n }
+    ensures long { array_string_len text.new ≤ array_string_len text.old + 25 }
 {
     push_number(text, u64::from(n / 10_000));
-    text.push(b'.');
-    text.push(b'0' + (n / 1000 % 10) as u8);
-    text.push(b'0' + (n / 100 % 10) as u8);
-    text.push(b'0' + (n / 10 % 10) as u8);
-    text.push(b'0' + (n % 10) as u8);
+    text.push('.');
+    for front in [n / 1000, n / 100, n / 10, n] {
+        text.push(char::from(b'0' + (front % 10) as u8));
+    }
 }
 
 // The first two lines of a page for so many vertices and faces.
 #[tactic(auto, unfolding(crate::specs::Text::header))]
 pub fn heading(vertices: u64, faces: u64) -> Text
-    ensures { result.items ≡ header vertices faces }
+    ensures { result.bytes ≡ header vertices faces }
 {
     let mut text = Text::new();
-    text.push(b'O');
-    text.push(b'F');
-    text.push(b'F');
-    text.push(b'\n');
+    text.push_str("OFF\n");
     push_number(&mut text, vertices);
-    text.push(b' ');
+    text.push(' ');
     push_number(&mut text, faces);
-    text.push(b' ');
-    text.push(b'0');
-    text.push(b'\n');
+    text.push_str(" 0\n");
     text
 }
 
@@ -68,7 +61,7 @@ pub trait Line: Copy {
         ensures { result ≡ numbers self };
 
     fn text(self) -> Text
-        ensures { result.items ≡ text self };
+        ensures { result.bytes ≡ text self };
 }
 
 // A vertex line.
@@ -85,11 +78,11 @@ impl Line for Coordinates {
     fn text(self) -> Text {
         let mut text = Text::new();
         push_coordinate(&mut text, self.x);
-        text.push(b' ');
+        text.push(' ');
         push_coordinate(&mut text, self.y);
-        text.push(b' ');
+        text.push(' ');
         push_coordinate(&mut text, self.z);
-        text.push(b'\n');
+        text.push('\n');
         text
     }
 }
@@ -107,14 +100,13 @@ impl Line for Triangle<u32> {
     #[tactic(auto, unfolding(crate::specs::Text::face_line))]
     fn text(self) -> Text {
         let mut text = Text::new();
-        text.push(b'3');
-        text.push(b' ');
+        text.push_str("3 ");
         push_number(&mut text, u64::from(self.a));
-        text.push(b' ');
+        text.push(' ');
         push_number(&mut text, u64::from(self.b));
-        text.push(b' ');
+        text.push(' ');
         push_number(&mut text, u64::from(self.c));
-        text.push(b'\n');
+        text.push('\n');
         text
     }
 }

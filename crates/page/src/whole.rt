@@ -22,8 +22,7 @@ fn write_lines<P: Located>(
     for triangle in triangles {
         faces = faces.face(buffer, *triangle)?;
     }
-    let finished = faces.finish()?;
-    Ok(finished)
+    Ok(faces.finish()?)
 }
 
 // Writes the page of a mesh at the start of the buffer, and answers how many bytes it takes. Where a line is refused, the lines
@@ -35,6 +34,5 @@ pub fn write_page<P: Located>(
 ) -> Result<usize, Refusal>
     ensures { PageAnswer (mesh (map P.Located.place vertices.now) triangles.now) buffer.old buffer.new result }
 {
-    let finished = write_lines(buffer, vertices, triangles)?;
-    Ok(finished.length())
+    Ok(write_lines(buffer, vertices, triangles)?.length())
 }

@@ -11,9 +11,9 @@ pub returns : goal.returns
 returns c =
     let free = c.args.free in
     let buffer = c.args.buffer.now in
-    let text = c.args.text.now.items in
+    let text = c.args.text.now.bytes in
     let room : free + length text ≤ length buffer = omega arith in (
       ap (λ (b : Bool). let r : Option Refusal = cond b None (Some (PageRoom free)) in r) (le-leb (free + length text) (length buffer) room),
       omega arith,
-      ap (put_mid free (length buffer - free) buffer) (c.put.ensures ∙ ap (λ (z : List ℕ). sets (take (length buffer - free) (drop free buffer)) 0 z) c.as_slice.ensures.value) ∙ sets_part buffer free (length buffer - free) text room (omega arith),
+      ap (put_mid free (length buffer - free) buffer) (c.put.ensures ∙ ap (λ (z : List ℕ). sets (take (length buffer - free) (drop free buffer)) 0 z) (c.as_bytes.ensures.value ∙ c.deref.ensures.0)) ∙ sets_part buffer free (length buffer - free) text room (omega arith),
     )

@@ -67,5 +67,5 @@ returns g c =
     let r = reached_faces vs c.args.triangles.now (omega (arith, length-map c.args.vertices.now g.P.Located.place)) c.loop-vertex.invariant b.1 in
     let every : c.loop-triangle.triangle-index ≡ length c.args.triangles.now = omega arith in
     let full = stage_all every c.loop-triangle.invariant in
-    let long = ap (λ (z : Finished). z.length) c.in_ok-finished.ensures.1 ∙ ap (λ (z : Open (Triangle ℕ)). z.free) full in
+    let long = ap (λ (z : Finished). z.length) c.in_ok-finish.ensures.1 ∙ ap (λ (z : Open (Triangle ℕ)). z.free) full in
     reached_end vs c.args.triangles.now every long c.loop-triangle.invariant r
