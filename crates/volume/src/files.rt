@@ -3,7 +3,7 @@ ghost use Rattle.std.proofs.lemmas.List.Edits.{sets};
 ghost use Rattle.grid.specs.Shapes.{sides};
 ghost use Rattle.volume.specs.Files.{sample_count, file_sides, length_due, body_refusal, file_refusal, run, Held};
 
-use crate::file_samples::FileSample;
+use crate::file_kinds::FileKind;
 use crate::numbers::FileNumber;
 use grid::Shape;
 use refusal::Refusal;
@@ -83,12 +83,12 @@ pub fn read_file(
     if bytes.len() < 4 {
         return Err(Refusal::FileLength(4));
     }
-    match FileSample::try_from(bytes[0])? {
-        FileSample::Density => {
+    match FileKind::try_from(bytes[0])? {
+        FileKind::Density => {
             let (shape, level) = read_numbers::<2, u16>(bytes, densities)?;
             Ok(FileHeader::Densities { shape, level })
         }
-        FileSample::Label => {
+        FileKind::Label => {
             let (shape, level) = read_numbers::<1, u8>(bytes, labels)?;
             Ok(FileHeader::Labels { shape, level })
         }

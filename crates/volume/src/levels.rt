@@ -14,7 +14,15 @@ pub struct AtLevel<'a, V: Volume> {
     pub level: <V::Kind as SampleKind>::Level,
 }
 
-impl<V: Volume> AtLevel<'_, V> {
+impl<'a, V: Volume> AtLevel<'a, V> {
+    // The volume at the level.
+    pub fn new(volume: &'a V, level: <V::Kind as SampleKind>::Level) -> AtLevel<'a, V>
+        ensures volume { result.volume.now ≡ volume.now }
+        ensures level { result.level ≡ level }
+    {
+        AtLevel { volume, level }
+    }
+
     // Whether a grid point is inside: it has a sample, and that is inside at the level.
     pub fn is_inside(&self, p: Point) -> bool
         ensures value { result ≡ inside_at V.Kind.SampleKind.inside self.now.level (V.Volume.sample self.now.volume.now) p }

@@ -1,7 +1,7 @@
 #![tactic(auto)]
 
 mod densities;
-mod file_samples;
+mod file_kinds;
 mod files;
 mod fractions;
 mod insides;

@@ -34,12 +34,9 @@ fn place(shape: Shape, p: Point) -> usize
 fn is_inner(shape: Shape, base: Point) -> bool
     ensures { result ≡ true → Inner (sides shape) base }
 {
-    1 <= base.x
-        && base.x < shape.nx
-        && 1 <= base.y
-        && base.y < shape.ny
-        && 1 <= base.z
-        && base.z < shape.nz
+    (1..shape.nx).contains(&base.x)
+        && (1..shape.ny).contains(&base.y)
+        && (1..shape.nz).contains(&base.z)
 }
 
 // The sample that an entry stands for, if it is there and stands for one.

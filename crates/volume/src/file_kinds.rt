@@ -4,21 +4,21 @@ use refusal::Refusal;
 
 // Which kind of samples a volume file has.
 #[derive(Clone, Copy)]
-pub(crate) enum FileSample {
+pub(crate) enum FileKind {
     Density,
     Label,
 }
 
 // The kind of a file's first byte.
-impl TryFrom<u8> for FileSample {
+impl TryFrom<u8> for FileKind {
     type Error = Refusal;
 
     ghost try_from_gives = { Decodes };
 
-    fn try_from(code: u8) -> Result<FileSample, Refusal> {
+    fn try_from(code: u8) -> Result<FileKind, Refusal> {
         match code {
-            1 => Ok(FileSample::Density),
-            2 => Ok(FileSample::Label),
+            1 => Ok(FileKind::Density),
+            2 => Ok(FileKind::Label),
             _ => Err(Refusal::FileKind),
         }
     }
