@@ -8,7 +8,8 @@ use crate::counts::Census;
 use grid::Cell;
 use volume::{AtLevel, Volume};
 
-// What starts at the base of a cell and has all corners inside: nothing where the base itself is outside.
+// What starts at the base of a cell and has all corners inside: nothing where the base itself is outside. The test of the base
+// alone spares most cells the other seven corners; where the base is inside, it is asked of again as the first of the eight.
 fn starting_at<V: Volume>(at: &AtLevel<'_, V>, cell: Cell) -> Census
     ensures { Starting (inside_at V.Kind.SampleKind.inside at.now.level (V.Volume.sample at.now.volume.now)) cell.base result }
 {
