@@ -1,5 +1,6 @@
 -- A surface that begins: its empty map and its no vertices are tied. Assumes nothing.
-use Rattle.std.proofs.Common.{◌≡◌, ℕ, ◌+◌, ◌-◌, ◌≤◌, List, length, replicate, set, Some, None, Option, sym, ap, ◌∙◌, subst, arith}
+use Rattle.std.proofs.Common.{rules, false, is_ok, Ok, Err, Result, refl, ◌≡◌, ℕ, ◌+◌, ◌-◌, ◌≤◌, List, length, replicate, set, Some, None, Option, sym, ap, ◌∙◌, subst, arith}
+use Rattle.std.specs.Result.{IsOk}
 use native.Mathlib.Nat.{ℕ_set}
 use native.Mathlib.Bridge.{le_prop}
 use mathlib.Core.Logic.{∥∥₁_elim, ∥∥₁_prop}
@@ -52,3 +53,8 @@ tied_again place s e es vs m t f h a b c p =
     subst (λ (q : Numbering). ∥ Tied q ∥₁)
     (sym (λ i. numbering (a i) ((b ∙ ap (λ (q : Coordinates). set s.vertices s.count (record { edge = e; at = q })) p) i) (c i)))
     (∥∥₁_elim t ∥∥₁_prop (λ k. ∣ tied_next place s e k (sym h) (f.entry (sym h)) (f.vertex (sym h)) ∣₁))
+
+-- what is no refusal went well
+pub ok_unless : {T E : Type 0} (r : Result T E) → (is_ok r ≡ false → ⊥) → IsOk r
+ok_unless (Ok x) h = search rules
+ok_unless (Err e) h = absurd (h refl)

@@ -11,3 +11,4 @@ pub mod Runs
 pub mod Skins
 pub mod Law
 pub mod Bounds
+pub mod Texts

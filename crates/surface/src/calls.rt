@@ -69,7 +69,7 @@ impl<'a> Surface<'a> {
     }
 
     // Marches a cell: adds its triangles, with a vertex on each of its crossed edges, or refuses and changes nothing. After every run of
-    // calls on one field, that is a volume at a level, refused ones and those of other shapes too, the surface keeps the skin law.
+    // calls on one field, such as a volume at a level, refused calls and those of other shapes too, the surface keeps the skin law.
     pub fn march<F: Field>(&mut self, field: &F, cell: u32) -> Result<Counts, Refusal>
         ensures is { March (F.Field.field field.now) (state self.old) cell result (state self.new) }
         ensures skin { KeepsSkin (F.Field.field field.now) (state self.old) (state self.new) }

@@ -9,7 +9,7 @@ use crate::fields::Field;
 use crate::records::Records;
 use crate::tables::Numbering;
 use grid::GridEdge;
-use keymap::{Entry, Full, KeyMap};
+use keymap::{Entry, KeyMap};
 use mesh::Vertex;
 
 impl<'a> Numbering<'a> {
@@ -36,6 +36,7 @@ impl<'a> Numbering<'a> {
     }
 
     // Whether an edge has no vertex.
+    #[tactic(auto, unfolding(grid::specs::EdgeKeys::vertex_on))]
     fn is_bare(&self, edge: &GridEdge) -> bool
         ensures { result ≡ bare self.now.map.entries.now edge.now }
     {
@@ -61,13 +62,9 @@ impl<'a> Numbering<'a> {
             return number;
         }
         let number = self.vertices.count;
-        match self.map.insert(edge, number) {
-            Ok(()) => {
-                let at = field.place(edge);
-                self.vertices.push(Vertex { edge, at });
-                number
-            }
-            Err(Full) => unreachable(),
-        }
+        self.map.insert(edge, number).unwrap();
+        let at = field.place(edge);
+        self.vertices.push(Vertex { edge, at });
+        number
     }
 }

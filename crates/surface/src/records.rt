@@ -36,10 +36,10 @@ impl<'a, T: Copy> Records<'a, T> {
     pub fn get(&self, n: u32) -> Result<T, Refusal>
         ensures { RecordAnswer self.now.items.now self.now.count n result }
     {
-        if n >= self.count {
-            return Err(Refusal::Outside(n));
-        }
-        Ok(self.items[n as usize])
+        self.as_slice()
+            .get(n as usize)
+            .copied()
+            .ok_or(Refusal::Outside(n))
     }
 
     // The records taken, in the order of their numbers.

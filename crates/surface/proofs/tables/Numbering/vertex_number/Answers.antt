@@ -2,7 +2,7 @@ use Rattle.std.proofs.Common.{sym, refl, arith}
 use Rattle.grid.specs.EdgeKeys.{vertex_on, with_vertex}
 use Rattle.keymap.proofs.Frees.{free_crowded}
 use Rattle.surface.specs.Views.{numbered}
-use Rattle.surface.proofs.Begun.{tied_again}
+use Rattle.surface.proofs.Begun.{tied_again, ok_unless}
 use Rattle.surface.proofs.Namings.{named_old, named_new, number_old, number_new}
 use Rattle.surface.proofs.tables.Numbering.vertex_number.Goals as goal
 
@@ -22,11 +22,11 @@ pub push-requires : goal.push-requires
 unfolding vertex_on
 push-requires g c = c.requires.vertex (sym c.in_default.ensures)
 
-pub unreachable-requires : goal.unreachable-requires
+pub unwrap-requires : goal.unwrap-requires
 unfolding vertex_on
-unreachable-requires g c =
+unwrap-requires g c =
     let h = c.requires.entry (sym c.in_default.ensures) in
-    omega (arith, h, free_crowded c.args.self.now.map.entries.now (c.in-Err.ensures.full refl))
+    ok_unless c.insert.result (λ f. let n = free_crowded c.args.self.now.map.entries.now (c.insert.ensures.full f) in omega (arith, h))
 
 pub invariant_of-self : goal.invariant_of-self
 unfolding vertex_on with_vertex
