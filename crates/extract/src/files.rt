@@ -1,15 +1,18 @@
 ghost use Rattle.std.specs.Prelude.{◌≡◌, IfOk};
+ghost use Rattle.grid.specs.Shapes.{sides};
+ghost use Rattle.volume.specs.Volumes.{table_sample};
+ghost use Rattle.surface.specs.Marches.{field};
 ghost use Rattle.extract.specs.Answers.{Answers};
 ghost use Rattle.extract.specs.Output.{field_page, file_page, output};
 
 use crate::cells::extract_page;
 use crate::failures::Failure;
-use grid::Triangle;
+use grid::{Shape, Triangle};
 use mesh::Vertex;
 use refusal::Refusal;
 use std::alloc::{AllocError, Global};
 use surface::Field;
-use volume::{AtLevel, Density, FileHeader, Label, TableVolume, read_file};
+use volume::{AtLevel, Density, FileHeader, Label, SampleKind, TableVolume, read_file};
 
 // The longest volume file that is read, and the sizes of the tables.
 const LONGEST: usize = 4096;
@@ -47,42 +50,33 @@ fn page_of_field<F: Field>(heap: Global, field: &F) -> Result<Vec<u8>, Failure>
     Ok(page)
 }
 
+// The page of the skin of a table of samples at a level.
+fn page_of_table<K: SampleKind>(
+    heap: Global,
+    shape: Shape,
+    entries: &[Option<K::Entry>],
+    level: K::Level,
+) -> Result<Vec<u8>, Failure>
+    ensures { Answers (field_page (field K.SampleKind.inside K.SampleKind.crossing level (sides shape) (table_sample K.SampleKind.stored (sides shape) entries.now))) result }
+{
+    let volume = TableVolume::<K> { shape, entries };
+    page_of_field(heap, &AtLevel::new(&volume, level))
+}
+
 // The page of the skin of a volume file.
 fn page_of_file(heap: Global, input: &[u8]) -> Result<Vec<u8>, Failure>
     ensures { Answers (file_page input.now) result }
 {
     if input.len() > LONGEST {
-        return Err(Failure::Refused(Refusal::TableRoom(4096)));
+        return Err(Failure::Refused(Refusal::TableRoom(LONGEST as u64)));
     }
     let mut densities = vec![in heap; None; SAMPLES]?;
     let mut labels = vec![in heap; None; SAMPLES]?;
     match read_file(input, &mut densities, &mut labels)? {
         FileHeader::Densities { shape, level } => {
-            let volume = TableVolume::<Density> {
-                shape,
-                entries: &densities,
-            };
-            page_of_field(
-                heap,
-                &AtLevel {
-                    volume: &volume,
-                    level,
-                },
-            )
+            page_of_table::<Density>(heap, shape, &densities, level)
         }
-        FileHeader::Labels { shape, level } => {
-            let volume = TableVolume::<Label> {
-                shape,
-                entries: &labels,
-            };
-            page_of_field(
-                heap,
-                &AtLevel {
-                    volume: &volume,
-                    level,
-                },
-            )
-        }
+        FileHeader::Labels { shape, level } => page_of_table::<Label>(heap, shape, &labels, level),
     }
 }
 

@@ -31,11 +31,11 @@ returns-in-Densities c =
     let fits = density_fits b 1024 1024 none held.0 in
     let blank = c.deref_mut.ensures.value ∙ c.in_ok-densities.ensures.items_if_clones_equal (missing _ (λ x h. h)) in
     let entries = c.deref.ensures.value ∙ with_items_is c.in_ok-densities.densities c.read_file.new.densities (c.read_file.auto.densities ∙ c.deref_mut.ensures.len) ∙ held.3 ∙ ap (λ (t : List (Option ℕ)). sets t 0 (density_samples b)) blank in
-    answered c.page_of_field.result _ _
+    answered c.page_of_table.result _ _
     (density_page b _ c.if-input-gt-LONGEST.false none held.0
     (same_field density_inside density_crossing density_stored c.in-Densities.level (density_level b) (sides c.in-Densities.shape) (file_sides b) 1024 (density_samples b) c.deref.result.now
     held.2 held.1 entries (let n = length_density b in omega arith)))
-    c.page_of_field.ensures
+    c.page_of_table.ensures
 
 pub returns : goal.returns
 returns c =
@@ -47,8 +47,8 @@ returns c =
     let fits = label_fits b 1024 1024 none held.0 in
     let blank = c.deref_mut-2.ensures.value ∙ c.in_ok-labels.ensures.items_if_clones_equal (missing _ (λ x h. h)) in
     let entries = c.deref-in-Labels.ensures.value ∙ with_items_is c.in_ok-labels.labels c.read_file.new.labels (c.read_file.auto.labels ∙ c.deref_mut-2.ensures.len) ∙ held.3 ∙ ap (λ (t : List (Option ℕ)). sets t 0 (label_samples b)) blank in
-    answered c.page_of_field-in-Labels.result _ _
+    answered c.page_of_table-in-Labels.result _ _
     (label_page b _ c.if-input-gt-LONGEST.false none held.0
     (same_field label_inside label_crossing label_stored c.in-Labels.level (label_level b) (sides c.in-Labels.shape) (file_sides b) 1024 (label_samples b) c.deref-in-Labels.result.now
     held.2 held.1 entries (let n = length_label b in omega arith)))
-    c.page_of_field-in-Labels.ensures
+    c.page_of_table-in-Labels.ensures
