@@ -44,19 +44,11 @@ fn main(rt: HostRuntime) -> anyhow::Result<()> {
         cz: 126,
     };
     let rounds = rounds(&rt)?;
-    let field = AtLevel {
-        volume: &ball,
-        level: LEVEL,
-    };
-    measure(&rt, "phantom", &field, rounds)?;
+    measure(&rt, "phantom", &AtLevel::new(&ball, LEVEL), rounds)?;
     let entries = samples(rt.alloc(), &ball)?;
     let table = TableVolume::<Density> {
         shape,
         entries: &entries,
     };
-    let field = AtLevel {
-        volume: &table,
-        level: LEVEL,
-    };
-    measure(&rt, "table", &field, rounds)
+    measure(&rt, "table", &AtLevel::new(&table, LEVEL), rounds)
 }

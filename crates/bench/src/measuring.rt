@@ -51,8 +51,7 @@ pub fn measure<F: Field>(
         )?;
         least = least.min(start.elapsed(rt)?.as_micros());
         if round == 0 {
-            let (v, f) = (counts.vertices, counts.triangles);
-            println!(rt; "{name}: {v} vertices, {f} triangles")?;
+            println!(rt; "{name}: {counts}")?;
         }
     }
     if rounds > 1 {

@@ -17,13 +17,7 @@ fn ball(rt: &HostRuntime) -> anyhow::Result<()> {
         cz: 9,
     };
     println!(rt; "ball: a phantom of 20 x 20 x 20 samples, centre 9 9 9, at level 65486")?;
-    study(
-        rt,
-        &AtLevel {
-            volume: &phantom,
-            level: 65_486,
-        },
-    )
+    study(rt, &AtLevel::new(&phantom, 65_486))
 }
 
 // Whether the sample is one of the part's: a block of 7 x 5 x 5 with a hole through it along y and, beside that, a hollow.
@@ -40,8 +34,7 @@ fn part(rt: &HostRuntime) -> anyhow::Result<()> {
     for z in 0..5 {
         for y in 0..5 {
             for x in 0..7 {
-                let entry = if is_metal(x, y, z) { Some(1) } else { None };
-                entries.push(entry)?;
+                entries.push(is_metal(x, y, z).then_some(1))?;
             }
         }
     }
@@ -50,13 +43,7 @@ fn part(rt: &HostRuntime) -> anyhow::Result<()> {
         entries: &entries,
     };
     println!(rt; "part: a table of 7 x 5 x 5 labels with a hole and a hollow, at level 1")?;
-    study(
-        rt,
-        &AtLevel {
-            volume: &volume,
-            level: 1,
-        },
-    )
+    study(rt, &AtLevel::new(&volume, 1))
 }
 
 // A tetrahedron that lacks a side.

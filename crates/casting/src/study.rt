@@ -40,15 +40,7 @@ pub fn judge(
 
 // Prints a census, and whether twice its Euler number is that of the skin.
 fn compare(rt: &HostRuntime, census: Census, euler: Option<i64>) -> anyhow::Result<()> {
-    let Census {
-        points,
-        edges,
-        triangles,
-        tetrahedra,
-    } = census;
-    println!(rt;
-        "  census: {points} points, {edges} edges, {triangles} triangles, {tetrahedra} tetrahedra inside"
-    )?;
+    println!(rt; "  census: {census} inside")?;
     if let Some(skin) = euler {
         let twice = census.euler().wrapping_mul(2);
         let word = if skin == twice { "as" } else { "not as" };
@@ -71,9 +63,8 @@ fn study_on<V: Volume>(
         }
     }
     let counts = surface.counts();
-    let (v, f) = (counts.vertices, counts.triangles);
-    println!(rt; "  {cells} cells marched: {v} vertices, {f} triangles")?;
-    let euler = judge(rt, v, surface.triangles())?;
+    println!(rt; "  {cells} cells marched: {counts}")?;
+    let euler = judge(rt, counts.vertices, surface.triangles())?;
     compare(rt, take(at), euler)
 }
 

@@ -5,10 +5,7 @@ use volume::{AtLevel, Density, TableVolume};
 // The census at level 5 of a block of densities.
 fn census(shape: Shape, entries: &[Option<u16>]) -> Census {
     let volume: TableVolume<Density> = TableVolume { shape, entries };
-    take(&AtLevel {
-        volume: &volume,
-        level: 5,
-    })
+    take(&AtLevel::new(&volume, 5))
 }
 
 const ONE: Shape = Shape {

@@ -3,7 +3,7 @@ use keymap::Entry;
 use mesh::{Counts, DirectedEdge, Verdict, VertexRecord, inspect};
 use refusal::Refusal;
 
-const BLANK: VertexRecord = VertexRecord {
+const USED: VertexRecord = VertexRecord {
     parent: 9,
     neighbour: 9,
     degree: 9,
@@ -39,7 +39,7 @@ fn with_room(
         key: DirectedEdge { from: 0, to: 1 },
         number: 7,
     }); 24];
-    let mut records = [BLANK; 8];
+    let mut records = [USED; 8];
     inspect(
         vertex_count,
         triangles,

@@ -97,7 +97,7 @@ fn blocks_close(rt: HostRuntime) -> Result<(), Fail> {
     };
     assert_eq!(rt;
         verdict(heap, Shape::new(3, 3, 1)?, &ring)?,
-        Ok(Verdict::Sound(flat))
+        Verdict::Sound(flat)
     );
     let mut hollow = vec![in heap; Some(1u8); 27]?;
     hollow[13] = Some(2);
@@ -110,7 +110,7 @@ fn blocks_close(rt: HostRuntime) -> Result<(), Fail> {
     };
     assert_eq!(rt;
         verdict(heap, Shape::new(3, 3, 3)?, &hollow)?,
-        Ok(Verdict::Sound(shell))
+        Verdict::Sound(shell)
     );
     let pair = Counts {
         vertices: 26,
@@ -121,7 +121,7 @@ fn blocks_close(rt: HostRuntime) -> Result<(), Fail> {
     };
     assert_eq!(rt;
         verdict(heap, Shape::new(2, 1, 1)?, &[Some(1), Some(1)])?,
-        Ok(Verdict::Sound(pair))
+        Verdict::Sound(pair)
     );
     let none = Counts {
         vertices: 0,
@@ -132,7 +132,7 @@ fn blocks_close(rt: HostRuntime) -> Result<(), Fail> {
     };
     assert_eq!(rt;
         verdict(heap, Shape::new(1, 1, 1)?, &[None])?,
-        Ok(Verdict::Sound(none))
+        Verdict::Sound(none)
     );
     Ok(())
 }

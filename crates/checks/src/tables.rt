@@ -3,6 +3,7 @@ use keymap::Entry;
 use mesh::{DirectedEdge, Verdict, Vertex, VertexRecord, inspect};
 use refusal::Refusal;
 use std::alloc::{AllocError, Global};
+use std::test::Fail;
 use surface::{Counts, Surface};
 use volume::{AtLevel, Label, TableVolume};
 
@@ -39,10 +40,7 @@ pub fn last_march(
         &mut vertices,
         &mut triangles,
     );
-    let field = AtLevel {
-        volume: &volume,
-        level: 5,
-    };
+    let field = AtLevel::new(&volume, 5);
     let mut answer = Ok(Counts::default());
     for cell in cells {
         answer = surface.march(&field, *cell);
@@ -51,11 +49,7 @@ pub fn last_march(
 }
 
 // The verdict on the skin of a block of labels at level 1, all cells marched in falling order.
-pub fn verdict(
-    heap: Global,
-    shape: Shape,
-    samples: &[Option<u8>],
-) -> Result<Result<Verdict, Refusal>, AllocError> {
+pub fn verdict(heap: Global, shape: Shape, samples: &[Option<u8>]) -> Result<Verdict, Fail> {
     let cells = shape.cell_count();
     let mut marks = vec![in heap; false; cells as usize]?;
     let mut entries = vec![in heap; None; 1024]?;
@@ -72,17 +66,12 @@ pub fn verdict(
         &mut vertices,
         &mut triangles,
     );
-    let field = AtLevel {
-        volume: &volume,
-        level: 1,
-    };
+    let field = AtLevel::new(&volume, 1);
     for cell in (0..cells).rev() {
-        if let Err(why) = surface.march(&field, cell) {
-            return Ok(Err(why));
-        }
+        surface.march(&field, cell)?;
     }
     let mut edges: Vec<Option<Entry<DirectedEdge>>> = vec![in heap; None; 3072]?;
     let mut records = vec![in heap; VertexRecord::default(); 512]?;
     let count = surface.counts().vertices;
-    Ok(inspect(count, surface.triangles(), &mut edges, &mut records))
+    Ok(inspect(count, surface.triangles(), &mut edges, &mut records)?)
 }
