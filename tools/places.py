@@ -74,6 +74,6 @@ heading("4. by hand: equality, printing, conversion, blank values", lines(
     r"fn (same|eq|cmp|partial_cmp|clone|fmt|from|try_from|default)\b|format!|^\s*(pub )?const (NO_|NOWHERE|BLANK)|refused \{|256 \* u16"))
 heading("5. facts asked for by three or more functions", repeated_requires())
 heading("5. parameters that travel together", travelling())
-heading("6. a buffer or slice with a length or place beside it", lines(r"^\s*(pub )?(items|count|written|free|at): |: \[[A-Za-z<>]+; (12|19)\]"))
-heading("6. tables of constants", lines(r"^\s*(pub )?const \w+: \["))
+heading("6. a buffer or slice with a length or place beside it", lines(r"^\s*(pub(\(\w+\))? )?(items|count|written|free|at): |: \[[A-Za-z<>]+; (12|19)\]"))
+heading("6. tables of constants", lines(r"^\s*(pub )?const \w+: &?\["))
 heading("7. function pointers, dyn, switches on a step", lines(r"\bdyn\b|: fn\(|\bmode\b|\bstep: "))
