@@ -1,4 +1,3 @@
-ghost use Rattle.std.proofs.Common.{rules};
 ghost use Rattle.std.specs.Prelude.{[], ◌∷◌, slice_index};
 
 use keymap::{Entry, Full, Key, KeyMap};
@@ -6,7 +5,7 @@ use std::test::Fail;
 
 // A number, which is its own hash. In a table of three entries probing for 0 begins at entry 0, for 1 and 2 at 1, for 3, 4 and 5
 // at 2.
-#[derive(Clone, Copy, PartialEq, Eq)]
+#[derive(Clone, Copy)]
 struct Number {
     n: u32,
 }
@@ -16,11 +15,13 @@ impl Key for Number {
 
     ghost hashed = { λ m. slice_index m 0 };
 
+    fn same(&self, other: &Number) -> bool {
+        self.n == other.n
+    }
+
     fn hash(&self) -> u32 {
         self.n
     }
-
-    ghost equal = { Prim.search rules };
 }
 
 #[test]

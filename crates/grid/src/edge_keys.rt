@@ -1,4 +1,3 @@
-ghost use Rattle.std.proofs.Common.{rules};
 ghost use Rattle.grid.specs.EdgeKeys.{edge_meaning, edge_hash};
 
 use crate::geometry::GridEdge;
@@ -9,9 +8,11 @@ impl Key for GridEdge {
 
     ghost hashed = { edge_hash };
 
+    fn same(&self, other: &GridEdge) -> bool {
+        self == other
+    }
+
     fn hash(&self) -> u32 {
         self.key()
     }
-
-    ghost equal = { Prim.search rules };
 }

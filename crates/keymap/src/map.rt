@@ -12,7 +12,7 @@ fn ends_at<K: Key>(entry: &Option<Entry<K>>, key: &K) -> bool
 {
     match entry {
         None => true,
-        Some(held) => held.key == *key,
+        Some(held) => held.key.same(key),
     }
 }
 

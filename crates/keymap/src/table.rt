@@ -1,19 +1,19 @@
 ghost use Rattle.std.specs.Prelude.{◌≡◌, ℕ, List};
 ghost use Rattle.keymap.specs.Probe.{alike};
 
-// What a table can be keyed by: values with an equality and a hash, which go by what the keys mean.
-pub trait Key: Eq {
+// What a table can be keyed by: values with an equality, which is that of their meanings, and a hash, which equal keys share.
+pub trait Key {
     // What a key stands for.
     ghost meaning: { Self → List ℕ };
 
     // The hash of a meaning.
     ghost hashed: { List ℕ → ℕ };
 
+    fn same(&self, other: &Self) -> bool
+        ensures { result ≡ alike (meaning self.now) (meaning other.now) };
+
     fn hash(&self) -> u32
         ensures { result ≡ hashed (meaning self.now) };
-
-    // Keys are equal exactly if they mean the same.
-    ghost equal: { (k l : Self) → Self.eq k l ≡ alike (meaning k) (meaning l) };
 }
 
 // A key that a table holds, and the number held for it.

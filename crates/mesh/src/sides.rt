@@ -1,5 +1,4 @@
 ghost use Rattle.std.specs.Prelude.{◌≡◌};
-ghost use Rattle.std.proofs.Common.{rules};
 ghost use Rattle.mesh.specs.Sides.{edge_ends, edge_hash, reverse, edges_of};
 
 use grid::Triangle;
@@ -29,11 +28,13 @@ impl Key for DirectedEdge {
 
     ghost hashed = { edge_hash };
 
+    fn same(&self, other: &DirectedEdge) -> bool {
+        self == other
+    }
+
     fn hash(&self) -> u32 {
         self.from.wrapping_mul(65_599).wrapping_add(self.to)
     }
-
-    ghost equal = { Prim.search rules };
 }
 
 // The directed edges that a triangle runs along: from its first corner, its second and its third.
