@@ -1,7 +1,7 @@
 -- How many entries are free, and what that says of a search. Assumes nothing.
 use Rattle.std.proofs.Common.{◌≡◌, ℕ, zero, suc, ◌+◌, ◌<◌, ◌≤◌, true, cond, List, [], ◌∷◌, length, get_or, replicate, is_none, is_some, Some, None, Option, refl, ◌∙◌, ⊎_elim, arith, length-set}
 use Rattle.std.proofs.lemmas.List.{set_past}
-use Rattle.std.proofs.lemmas.List.Sums.{sum_by-cons, sum_by-set}
+use Rattle.std.proofs.lemmas.List.Sums.{sum_by-cons, sum_by-set, count_by-le-length}
 use Rattle.std.proofs.lemmas.Bool.{cases_lt, false≢true}
 use Rattle.keymap.specs.declared.table.Entry.{Entry}
 use Rattle.keymap.specs.Probe.{slot, number_in, number_at, lookup, put, Crowded}
@@ -25,6 +25,11 @@ module _ {K : Type 0} where
       let h = free_crowded es (λ i b. c (suc i) (omega arith)) in
       sum_by-cons one (Some e) es ∙ omega (arith, h)
 
+  -- no more entries are free than there are
+  pub free_le_length : (es : List (Option (Entry K))) → free es ≤ length es
+  unfolding free
+  free_le_length es = count_by-le-length is_none es
+
   pub length_put : (es : List (Option (Entry K))) (o : Option ℕ) (k : K) (v : ℕ) → length (put es o k v) ≡ length es
   length_put es None k v = refl
   length_put es (Some i) k v = length-set es i (held k v)
@@ -46,6 +51,10 @@ module _ {K : Type 0} where
   one_none None e = refl
   one_none (Some x) e = cc
 
+  one_some : (x : Option (Entry K)) (n : ℕ) → number_in x ≡ Some n → one x ≡ 0
+  one_some None n e = cc
+  one_some (Some x) n e = refl
+
   module _ (meaning : K → List ℕ) (hashed : List ℕ → ℕ) (es : List (Option (Entry K))) where
     is_some_at : (m : List ℕ) → 0 < free es → (o : Option ℕ) → slot meaning hashed es m ≡ o → is_some o ≡ true
     is_some_at m b None e = absurd (omega (arith, free_crowded es (crowded meaning hashed es m e)))
@@ -64,9 +73,21 @@ module _ {K : Type 0} where
           let f = one_none (get_or es i None) h in
           omega (arith, b, f)
 
+      old_at : (n : ℕ) (o : Option ℕ) → slot meaning hashed es (meaning k) ≡ o → number_at es o ≡ Some n → free (put es o k v) ≡ free es
+      unfolding free
+      old_at n None e h = refl
+      old_at n (Some i) e h =
+          let b = sum_by-set one es i (held k v) None (slot_below meaning hashed es (meaning k) i e) in
+          let f = one_some (get_or es i None) n h in
+          omega (arith, b, f)
+
       -- a new key takes one free entry
       pub free_new : lookup meaning hashed es (meaning k) ≡ None → is_some (slot meaning hashed es (meaning k)) ≡ true → free es ≡ free (put es (slot meaning hashed es (meaning k)) k v) + 1
       free_new = new_at (slot meaning hashed es (meaning k)) refl
+
+      -- a held key takes none
+      pub free_old : (n : ℕ) → lookup meaning hashed es (meaning k) ≡ Some n → free (put es (slot meaning hashed es (meaning k)) k v) ≡ free es
+      free_old n = old_at n (slot meaning hashed es (meaning k)) refl
 
 -- each entry of a cleared table counts
 pub free_cleared : (K : Type 0) (n : ℕ) → free {K = K} (replicate n None) ≡ n
