@@ -59,5 +59,12 @@ pub(crate) fn along(edge: GridEdge, r: u32) -> Coordinates
 pub(crate) fn sample_on_top<V: Volume>(volume: &V, edge: GridEdge) -> Option<V::Kind>
     ensures { result ≡ V.Volume.sample volume.now (top edge) }
 {
-    edge.top().and_then(|p| volume.sample_at(p))
+    match edge.top() {
+        Some(p) => volume.sample_at(p),
+        None => {
+            // Such an end is beyond the grid, where no volume has a sample: its shape says so.
+            let _shape = volume.shape();
+            None
+        }
+    }
 }

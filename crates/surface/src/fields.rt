@@ -1,7 +1,6 @@
 ghost use Rattle.std.specs.Prelude.{◌≡◌, length};
 ghost use Rattle.grid.specs.Patterns.{corner_flags};
 ghost use Rattle.grid.specs.Shapes.{sides};
-ghost use Rattle.surface.specs.Bounds.{volume_bounded};
 ghost use Rattle.surface.specs.Law.{Bounded};
 ghost use Rattle.surface.specs.Marches.{Field as Seen, field as seen};
 
@@ -15,8 +14,10 @@ pub trait Field {
     // Its sides, the grid points that are inside, and where the vertex on each crossed grid edge lies.
     ghost field: { Self → Seen };
 
+    // Its shape; no point on the border of such a grid or beyond is inside.
     fn shape(&self) -> Shape
-        ensures { sides result ≡ (field self.now).sides };
+        ensures is { sides result ≡ (field self.now).sides }
+        ensures bounded { Bounded (field self.now) };
 
     // Which corners of a cell are inside, by their codes.
     fn corners_inside(&self, cell: Cell) -> [bool; 8]
@@ -26,16 +27,11 @@ pub trait Field {
     // Where the vertex on a grid edge lies.
     fn place(&self, edge: GridEdge) -> Coordinates
         ensures { result ≡ (field self.now).place edge };
-
-    // No point on the border of the grid or beyond is inside.
-    ghost bounded: { (f : Self) → Bounded (field f) };
 }
 
 // The field of a volume at a level: what is inside, and where a crossing lies, by the kind of its samples.
 impl<V: Volume> Field for AtLevel<'_, V> {
     ghost field = { λ a. seen V.Kind.SampleKind.inside V.Kind.SampleKind.crossing a.level (sides (V.Volume.shaped a.volume.now)) (V.Volume.sample a.volume.now) };
-
-    ghost bounded = { λ a. volume_bounded V.Kind.SampleKind.inside V.Kind.SampleKind.crossing a.level (sides (V.Volume.shaped a.volume.now)) (V.Volume.sample a.volume.now) (V.Volume.border a.volume.now) };
 
     fn shape(&self) -> Shape {
         self.volume.shape()

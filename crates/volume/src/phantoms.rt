@@ -1,5 +1,4 @@
 ghost use Rattle.std.specs.Prelude.{◌≡◌, ℕ, ◌+◌, ◌-◌, ◌*◌, ◌≤◌, true};
-ghost use Rattle.std.proofs.Common.{rules};
 ghost use Rattle.grid.specs.Points.{sampled};
 ghost use Rattle.grid.specs.Shapes.{sides};
 ghost use Rattle.volume.specs.Volumes.{square_apart, squared_distance, phantom_sample};
@@ -42,8 +41,6 @@ impl Volume for Phantom {
     ghost shaped = { λ v. v.shape };
 
     ghost sample = { phantom_sample };
-
-    ghost border = { Prim.search rules };
 
     fn shape(&self) -> Shape {
         self.shape

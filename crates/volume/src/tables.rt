@@ -1,5 +1,4 @@
 ghost use Rattle.std.specs.Prelude.{◌≡◌, ℕ, ◌+◌, ◌<◌, true, map, length, None, slice_index_or};
-ghost use Rattle.std.proofs.Common.{rules};
 ghost use Rattle.grid.specs.Points.{sampled};
 ghost use Rattle.grid.specs.Shapes.{sides};
 ghost use Rattle.volume.specs.Volumes.{table_place, entry_sample, table_sample};
@@ -79,8 +78,6 @@ impl<K: SampleKind> Volume for TableVolume<'_, K> {
     ghost shaped = { λ v. v.shape };
 
     ghost sample = { λ v p. table_sample K.SampleKind.stored (sides v.shape) v.entries.now p };
-
-    ghost border = { Prim.search rules };
 
     fn shape(&self) -> Shape {
         self.shape

@@ -21,9 +21,10 @@ pub trait Volume {
     // The sample at a grid point, if it has one there.
     ghost sample: { Self → Point → Option Self.Kind };
 
-    // The shape of its block.
+    // Its shape; at the points on the border of such a grid, and beyond, it has no sample.
     fn shape(&self) -> Shape
-        ensures { result ≡ shaped self.now };
+        ensures is { result ≡ shaped self.now }
+        ensures border { Bordered (sides (shaped self.now)) (sample self.now) };
 
     fn sample_at(&self, p: Point) -> Option<Self::Kind>
         ensures { result ≡ sample self.now p };
@@ -35,7 +36,4 @@ pub trait Volume {
     {
         each_corner(cell, |p| answer_inside(self.sample_at(p), level))
     }
-
-    // At the points on the border of its grid, and beyond, a volume has no sample.
-    ghost border: { (v : Self) → Bordered (sides (shaped v)) (sample v) };
 }

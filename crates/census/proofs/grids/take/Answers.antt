@@ -29,11 +29,11 @@ returns g c =
     let inside : Point → Bool = inside_at g.V.Kind.SampleKind.inside c.args.at.now.level (g.V.Volume.sample c.args.at.now.volume.now) in
     let n : Sides = sides (g.V.Volume.shaped c.args.at.now.volume.now) in
     let s : Sides = sides c.shape-shape.result in
-    let e : s ≡ n = ap sides c.shape-shape.ensures in
+    let e : s ≡ n = ap sides c.shape-shape.ensures.is in
     let k : ℕ = c.loop-number.number in
     let low : c.cell_count-number-end.result ≤ k = c.loop-number-test.false in
     let high : k ≤ c.cell_count-number-end.result = c.loop-number.auto.number-end in
     let all : k ≡ cell_count s = omega (arith, c.cell_count-number-end.ensures) in
     summed_all n inside
-    (padded g.V.Kind.SampleKind.inside c.args.at.now.level n (g.V.Volume.sample c.args.at.now.volume.now) (g.met.V.Volume.border c.args.at.now.volume.now))
+    (padded g.V.Kind.SampleKind.inside c.args.at.now.level n (g.V.Volume.sample c.args.at.now.volume.now) c.shape-shape.ensures.border)
     k c.loop-number.total (all ∙ ap cell_count e) (subst (λ (v : Sides). Summed v inside k c.loop-number.total) e c.loop-number.invariant)

@@ -18,13 +18,13 @@ pub returns-in_err-march : goal.returns-in_err-march
 returns-in_err-march g c =
     let f = g.F.Field.field c.args.field.now in
     let p = err_from_is_err_and c.from_residual.result c.from_residual.ensures.1 in
-    let last : c.cell_count-cell-end.result ≡ cell_count f.sides = c.cell_count-cell-end.ensures ∙ ap cell_count c.shape.ensures in
+    let last : c.cell_count-cell-end.result ≡ cell_count f.sides = c.cell_count-cell-end.ensures ∙ ap cell_count c.shape.ensures.is in
     rw (p.1, p.2)
     (refused_at f (state c.args.surface.now) c.loop-cell.cell (cell_count f.sides) (state c.loop-cell.surface) _ (omega (arith, last)) c.loop-cell.invariant c.in_err-march.ensures.is.0)
 
 pub returns : goal.returns
 returns g c =
     let f = g.F.Field.field c.args.field.now in
-    let last : c.cell_count-cell-end.result ≡ cell_count f.sides = c.cell_count-cell-end.ensures ∙ ap cell_count c.shape.ensures in
+    let last : c.cell_count-cell-end.result ≡ cell_count f.sides = c.cell_count-cell-end.ensures ∙ ap cell_count c.shape.ensures.is in
     let e : cell_count f.sides ≡ c.loop-cell.cell = omega (arith, last) in
     ap (rising f (state c.args.surface.now)) e ∙ c.loop-cell.invariant
