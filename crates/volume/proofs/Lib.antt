@@ -1,3 +1,4 @@
-mod Stored
+pub mod Stored
 mod Corners
 mod Runs
+pub mod Exact
