@@ -1,10 +1,11 @@
 -- The rules of the case table: one computed test over all its rows each. Assumes nothing.
-use Rattle.std.proofs.Common.{◌≡◌, ℕ, ◌<◌, ◌≤◌, Bool, true, false, cond, eqb, leb, List, [], ◌∷◌, map, length, get_or, take, sym, refl, ap, ◌∙◌, subst, arith}
+use Rattle.std.proofs.Common.{◌≡◌, ℕ, ◌<◌, ◌≤◌, Bool, true, false, cond, eqb, ltb, leb, List, [], ◌∷◌, map, length, get_or, take, sym, refl, ap, ◌∙◌, subst, arith}
 use lib.Count.{ones, ones_in}
 use Rattle.std.proofs.lemmas.List.{get_or-map, map-id}
-use Rattle.std.proofs.lemmas.Bool.{eqb-true, leb-true}
+use Rattle.std.proofs.lemmas.Bool.{eqb-true, ltb-true, leb-true, lt-ltb}
 use Rattle.grid.specs.declared.geometry.Triangle.{Triangle}
 use Rattle.grid.specs.declared.geometry.TetEdge.{TetEdge}
+use Rattle.grid.specs.Cells.{tetrahedra, corner}
 use Rattle.grid.specs.Cases.{rows, row, swap, turned, no_case}
 use Rattle.grid.specs.Table.{filled, table, table_row}
 use Rattle.grid.proofs.Below.{below, below_at}
@@ -60,3 +61,15 @@ counted_of (t ∷ u ∷ v ∷ l) h = absurd (omega arith)
 
 pub row_counted : (m n : ℕ) (r : List (Triangle TetEdge)) → m < 16 → r ≡ table_row m → n ≡ length (get_or rows m []) → take n r ≡ get_or rows m []
 row_counted m n r h e k = (λ j. take (k j) ((e ∙ written m h) j)) ∙ counted_of (get_or rows m []) (two_at_most m h)
+
+-- corner codes rise along a tetrahedron
+rising : below (λ t. below (λ n. below (λ m. cond (ltb m n) (ltb (corner t m) (corner t n)) true) 4) 4) 6 ≡ true
+unfolding corner tetrahedra
+rising = refl
+
+pub corners_rise : (t m n : ℕ) → t < 6 → m < n → n < 4 → corner t m < corner t n
+corners_rise t m n ht hm hn =
+    let a = below_at (λ t. below (λ n. below (λ m. cond (ltb m n) (ltb (corner t m) (corner t n)) true) 4) 4) 6 rising t ht in
+    let b = below_at (λ n. below (λ m. cond (ltb m n) (ltb (corner t m) (corner t n)) true) 4) 4 a n hn in
+    let d = below_at (λ m. cond (ltb m n) (ltb (corner t m) (corner t n)) true) 4 b m (omega arith) in
+    ltb-true (corner t m) (corner t n) (sym (ap (λ (q : Bool). cond q (ltb (corner t m) (corner t n)) true) (lt-ltb m n hm)) ∙ d)
