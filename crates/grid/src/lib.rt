@@ -10,5 +10,6 @@ mod shapes;
 
 pub use cells::Cell;
 pub use geometry::{GridEdge, GridTriangle, Point, Span, TetEdge, Triangle};
+pub use marching::{CellEdges, CellTriangles};
 pub use refusal::{Axis, Code, Refusal};
 pub use shapes::Shape;

@@ -1,5 +1,4 @@
-ghost use Rattle.std.specs.Prelude.{◌≡◌, ℕ, ◌+◌, ◌*◌, ◌<◌, ◌≤◌, Bool, List, [], ◌++◌, map, length, slice_index_or};
-ghost use Rattle.arrayvec.specs.ArrayVec.{array_vec_len};
+ghost use Rattle.std.specs.Prelude.{◌≡◌, ℕ, ◌+◌, ◌*◌, ◌<◌, ◌≤◌, Bool, List, [], ◌∷◌, ◌++◌, map, length, take, slice_index_or};
 ghost use Rattle.grid.specs.Points.{◌⊕◌, offset};
 ghost use Rattle.grid.specs.Cells.{edge, odd as odd-tet, placed};
 ghost use Rattle.grid.specs.Cases.{low_position, high_position, rows, turned};
@@ -9,7 +8,6 @@ ghost use Rattle.grid.specs.Patterns.{flag_mask, flag_tet, flag_triangles, flag_
 use crate::cells::{Cell, Mask, Tetrahedron};
 use crate::geometry::TetEdge::{E01, E02, E03, E12, E13, E23};
 use crate::geometry::{GridEdge, Point, Span, TetEdge, Triangle};
-use arrayvec::ArrayVec;
 
 // A kind of tetrahedron: the corner codes at its positions 0 to 3, and whether it is odd.
 #[derive(Clone, Copy)]
@@ -122,6 +120,26 @@ impl TetEdge {
     }
 }
 
+// The triangles of a cell, by the grid edges that carry their corners: the first `count` of `items`.
+#[derive(Clone, Copy)]
+pub struct CellTriangles {
+    pub items: [Triangle<GridEdge>; 12],
+    pub count: usize,
+}
+
+impl CellTriangles {
+    // Adds one more.
+    fn push(&mut self, triangle: Triangle<GridEdge>)
+        requires { self.old.count < 12 }
+        ensures items { take self.new.count self.new.items ≡ take self.old.count self.old.items ++ triangle ∷ [] }
+        ensures one { self.new.count ≡ self.old.count + 1 }
+        ensures room { length self.new.items ≡ length self.old.items }
+    {
+        self.items[self.count] = triangle;
+        self.count += 1;
+    }
+}
+
 impl Tetrahedron {
     // Its mask, where these corners of the cell are inside.
     fn mask(self, inside: &[bool; 8]) -> Mask
@@ -167,10 +185,11 @@ impl Tetrahedron {
     }
 
     // Adds its triangles, where these corners of the cell are inside.
-    fn add_triangles(self, inside: &[bool; 8], found: &mut ArrayVec<Triangle<GridEdge>, 12>)
-        requires { array_vec_len found.old + 2 ≤ 12 }
-        ensures items { found.new.items ≡ found.old.items ++ flag_tet inside.now self.cell.base self.number }
-        ensures few { array_vec_len found.new ≤ array_vec_len found.old + 2 }
+    fn add_triangles(self, inside: &[bool; 8], found: &mut CellTriangles)
+        requires { found.old.count + 2 ≤ 12 }
+        ensures items { take found.new.count found.new.items ≡ take found.old.count found.old.items ++ flag_tet inside.now self.cell.base self.number }
+        ensures few { found.new.count ≤ found.old.count + 2 }
+        ensures room { length found.new.items ≡ length found.old.items }
     {
         let mask = self.mask(inside);
         for &case in &mask.row()[..mask.triangle_count()] {
@@ -197,6 +216,26 @@ const SPANS: &[Span; 19] = &spans![
     6: 1;
 ];
 
+// The crossed edges of a cell: the first `count` of `items`.
+#[derive(Clone, Copy)]
+pub struct CellEdges {
+    pub items: [GridEdge; 19],
+    pub count: usize,
+}
+
+impl CellEdges {
+    // Adds one more.
+    fn push(&mut self, edge: GridEdge)
+        requires { self.old.count < 19 }
+        ensures items { take self.new.count self.new.items ≡ take self.old.count self.old.items ++ edge ∷ [] }
+        ensures one { self.new.count ≡ self.old.count + 1 }
+        ensures room { length self.new.items ≡ length self.old.items }
+    {
+        self.items[self.count] = edge;
+        self.count += 1;
+    }
+}
+
 impl Cell {
     // The corner of a code, whose bits 0, 1 and 2 add 1 to x, y and z.
     pub fn corner(self, code: u8) -> Point
@@ -210,10 +249,15 @@ impl Cell {
     }
 
     // The triangles of the cell where these of its corners are inside, tetrahedron by tetrahedron.
-    pub fn triangles(self, inside: &[bool; 8]) -> ArrayVec<Triangle<GridEdge>, 12>
-        ensures { result.items ≡ flag_triangles inside.now self.base }
+    pub fn triangles(self, inside: &[bool; 8]) -> CellTriangles
+        ensures value { take result.count result.items ≡ flag_triangles inside.now self.base }
+        ensures count { result.count ≡ length (flag_triangles inside.now self.base) }
+        ensures few { result.count ≤ 12 }
     {
-        let mut found = ArrayVec::new();
+        let mut found = CellTriangles {
+            items: [Triangle::default(); 12],
+            count: 0,
+        };
         for number in 0..6 {
             Tetrahedron { cell: self, number }.add_triangles(inside, &mut found);
         }
@@ -221,10 +265,15 @@ impl Cell {
     }
 
     // The edges of the cell that are crossed where these of its corners are inside.
-    pub fn crossed_edges(self, inside: &[bool; 8]) -> ArrayVec<GridEdge, 19>
-        ensures { result.items ≡ flag_edges inside.now self.base }
+    pub fn crossed_edges(self, inside: &[bool; 8]) -> CellEdges
+        ensures value { take result.count result.items ≡ flag_edges inside.now self.base }
+        ensures count { result.count ≡ length (flag_edges inside.now self.base) }
+        ensures few { result.count ≤ 19 }
     {
-        let mut crossed = ArrayVec::new();
+        let mut crossed = CellEdges {
+            items: [GridEdge::default(); 19],
+            count: 0,
+        };
         for span in SPANS {
             let low = inside[usize::from(span.corner)];
             let high = inside[usize::from(span.corner + span.direction)];

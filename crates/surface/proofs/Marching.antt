@@ -58,13 +58,13 @@ pub record Listed (inside : Point → Bool) (es : List (Option (Entry GridEdge))
   pub need_is : n ≡ need inside es B
   pub list_is : τs ≡ cell_triangles inside B
 
-pub listed : (inside : Point → Bool) (es : List (Option (Entry GridEdge))) (B C : Point) (flags : List Bool) (edges es1 : List GridEdge) (τs τs1 τs2 : List (Triangle GridEdge)) (n : Counts)
-    → C ≡ B → flags ≡ corner_flags inside C → edges ≡ flag_edges flags C → es1 ≡ edges → τs ≡ flag_triangles flags C → τs1 ≡ τs → τs2 ≡ τs
-    → n.vertices ≡ count_by (bare es) es1 → n.triangles ≡ length τs1 → Listed inside es B n τs2
+pub listed : (inside : Point → Bool) (es : List (Option (Entry GridEdge))) (B C : Point) (flags : List Bool) (edges : List GridEdge) (τs : List (Triangle GridEdge)) (n : Counts)
+    → C ≡ B → flags ≡ corner_flags inside C → edges ≡ flag_edges flags C → τs ≡ flag_triangles flags C
+    → n.vertices ≡ count_by (bare es) edges → n.triangles ≡ length τs → Listed inside es B n τs
 unfolding flag_need
-listed inside es B C flags edges es1 τs τs1 τs2 n p f e e1 t t1 t2 v w = record {
-  need_is = (λ i. record { vertices = (v ∙ ap (count_by (bare es)) (e1 ∙ e)) i; triangles = (w ∙ ap length (t1 ∙ t)) i }) ∙ need_by_flags inside es B C flags p f;
-  list_is = t2 ∙ t ∙ list_by_flags inside B C flags p f;
+listed inside es B C flags edges τs n p f e t v w = record {
+  need_is = (λ i. record { vertices = (v ∙ ap (count_by (bare es)) e) i; triangles = (w ∙ ap length t) i }) ∙ need_by_flags inside es B C flags p f;
+  list_is = t ∙ list_by_flags inside B C flags p f;
 }
 
 -- why a march is refused

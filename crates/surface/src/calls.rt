@@ -60,10 +60,12 @@ impl<'a> Surface<'a> {
             self.marks[cell as usize] = true;
             return Ok(Counts::default());
         }
-        let triangles = at.triangles(&inside);
-        let need = self.tables.need(&at.crossed_edges(&inside), &triangles);
+        let edges = at.crossed_edges(&inside);
+        let list = at.triangles(&inside);
+        let triangles = &list.items[..list.count];
+        let need = self.tables.need(&edges.items[..edges.count], triangles);
         self.tables.check_room(need, cell)?;
-        self.tables.add_all(field, &triangles);
+        self.tables.add_all(field, triangles);
         self.marks[cell as usize] = true;
         Ok(need)
     }

@@ -1,6 +1,6 @@
-use Rattle.std.proofs.Common.{◌≡◌, ◌<◌, not, List, [], ◌∷◌, ◌++◌, map, get_or, filter, sym, ap, ◌∙◌, arith}
+use Rattle.std.proofs.Common.{◌≡◌, ◌<◌, not, List, [], ◌∷◌, ◌++◌, map, length, get_or, take, filter, sym, ap, ◌∙◌, arith}
 use mathlib.Core.Bool.{beq}
-use Rattle.std.proofs.lemmas.List.{take_all}
+use Rattle.std.proofs.lemmas.List.{take_all, length-take-le}
 use Rattle.grid.specs.declared.geometry.Span.{Span}
 use Rattle.grid.specs.Patterns.{spans, no_span, span_crossed, span_edge, flag, flag_edges}
 use Rattle.grid.specs.Points.{differ}
@@ -27,16 +27,21 @@ loop-span-preserved c =
                 ∙ (λ j. inv.items j ++ (sym e j ∷ []))
                 ∙ sym (kept_yes (span_crossed flags) edge spans i no_span h (crossed ∙ w.if-low-high.true));
             few = omega arith;
+            room = w.push.ensures.room ∙ inv.room;
           })
       | else-low-high w ↦
           rw w.crossed-is (record {
             items = inv.items ∙ sym (kept_no (span_crossed flags) edge spans i no_span h (crossed ∙ w.if-low-high.false));
             few = omega arith;
+            room = inv.room;
           })
     ]
 
 pub returns : goal.returns
 unfolding flag_edges
 returns c =
-    c.loop-span.invariant.items
-    ∙ ap (λ (xs : List Span). map (span_edge c.args.self.base) (filter (span_crossed c.args.inside.now) xs)) (take_all c.loop-span.span-index spans c.loop-span-test.false)
+    let inv = c.loop-span.invariant in
+    let crossed = c.loop-span.crossed in
+    let value : take crossed.count crossed.items ≡ flag_edges c.args.inside.now c.args.self.base =
+    inv.items ∙ ap (λ (xs : List Span). map (span_edge c.args.self.base) (filter (span_crossed c.args.inside.now) xs)) (take_all c.loop-span.span-index spans c.loop-span-test.false) in
+    record { value = value; count = sym (length-take-le crossed.count crossed.items (omega arith)) ∙ ap length value; few = omega arith }

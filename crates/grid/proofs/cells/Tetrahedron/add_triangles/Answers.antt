@@ -18,4 +18,4 @@ returns-clause-items c =
     ∙ row_counted m c.triangle_count.result c.row.result.now c.mask-mask.result.four c.row.ensures c.triangle_count.ensures.value in
     let tet : map (λ τ. f (turned o τ)) (get_or rows m []) ≡ flag_tet c.args.inside.now c.args.self.cell.base c.args.self.number =
     sym (map-map f (turned o) (get_or rows m [])) ∙ ap (map f) (sym (row_turned o m)) ∙ (λ j. map f (row o (c.mask-mask.ensures j))) in
-    c.loop-case.invariant.items ∙ (λ j. c.args.found.now.items ++ (ap (map (λ τ. f (turned o τ))) all ∙ tet) j)
+    c.loop-case.invariant.items ∙ (λ j. take c.args.found.now.count c.args.found.now.items ++ (ap (map (λ τ. f (turned o τ))) all ∙ tet) j)

@@ -32,8 +32,8 @@ pub returns-in_err-check_room : goal.returns-in_err-check_room
 returns-in_err-check_room g c =
     let f = g.F.Field.field c.args.field.now in
     let s = state c.args.self.now in
-    let l = listed f.inside s.tables.numbered.entries (cell_base s.sides c.args.cell) c.args.at.base c.corners_inside-inside.result _ _ _ _ _ c.need-need.result c.requires.allowed.base
-    c.corners_inside-inside.ensures.value c.crossed_edges.ensures c.deref.ensures.0 c.triangles-triangles.ensures c.deref-2.ensures.0 c.deref-2.ensures.0 c.need-need.ensures.vertices c.need-need.ensures.triangles in
+    let l = listed f.inside s.tables.numbered.entries (cell_base s.sides c.args.cell) c.args.at.base c.corners_inside-inside.result _ _ c.need-need.result c.requires.allowed.base
+    c.corners_inside-inside.ensures.value c.crossed_edges-edges.ensures.value c.triangles-list.ensures.value c.need-need.ensures.vertices c.need-need.ensures.triangles in
     let p = err_from_is_err_and c.from_residual.result c.from_residual.ensures.1 in
     rw (p.1, p.2)
     (by_room f s c.args.cell c.need-need.result (Some c.in_err-check_room.field-0.0) c.requires.shape c.requires.allowed.allowed l.need_is c.in_err-check_room.ensures, refl)
@@ -43,21 +43,21 @@ add_all-requires g c =
     let f = g.F.Field.field c.args.field.now in
     let s = state c.args.self.now in
     let B = cell_base s.sides c.args.cell in
-    let l = listed f.inside s.tables.numbered.entries B c.args.at.base c.corners_inside-inside.result _ _ _ _ _ c.need-need.result c.requires.allowed.base
-    c.corners_inside-inside.ensures.value c.crossed_edges.ensures c.deref.ensures.0 c.triangles-triangles.ensures c.deref-2.ensures.0 c.deref-3.ensures.0 c.need-need.ensures.vertices c.need-need.ensures.triangles in
+    let l = listed f.inside s.tables.numbered.entries B c.args.at.base c.corners_inside-inside.result _ _ c.need-need.result c.requires.allowed.base
+    c.corners_inside-inside.ensures.value c.crossed_edges-edges.ensures.value c.triangles-list.ensures.value c.need-need.ensures.vertices c.need-need.ensures.triangles in
     let tied = c.args.self.now.tables.numbering.tied in
     let room = roomy c.need-need.result _ _ _ c.args.cell c.in_ok-check_room.ensures in
     record {
-      fits = all_fit f.place f.inside B s.tables c.need-need.result l.need_is tied room c.deref-3.result.now l.list_is;
-      room = room_for f.place f.inside B s.tables c.need-need.result l.need_is tied room c.deref-3.result.now l.list_is;
+      fits = all_fit f.place f.inside B s.tables c.need-need.result l.need_is tied room _ l.list_is;
+      room = room_for f.place f.inside B s.tables c.need-need.result l.need_is tied room _ l.list_is;
     }
 
 pub returns : goal.returns
 returns g c =
     let f = g.F.Field.field c.args.field.now in
     let s = state c.args.self.now in
-    let l = listed f.inside s.tables.numbered.entries (cell_base s.sides c.args.cell) c.args.at.base c.corners_inside-inside.result _ _ _ _ _ c.need-need.result c.requires.allowed.base
-    c.corners_inside-inside.ensures.value c.crossed_edges.ensures c.deref.ensures.0 c.triangles-triangles.ensures c.deref-2.ensures.0 c.deref-3.ensures.0 c.need-need.ensures.vertices c.need-need.ensures.triangles in
+    let l = listed f.inside s.tables.numbered.entries (cell_base s.sides c.args.cell) c.args.at.base c.corners_inside-inside.result _ _ c.need-need.result c.requires.allowed.base
+    c.corners_inside-inside.ensures.value c.crossed_edges-edges.ensures.value c.triangles-list.ensures.value c.need-need.ensures.vertices c.need-need.ensures.triangles in
     let t : State = record { sides = s.sides; marks = set s.marks c.args.cell true; tables = tabled c.add_all.new.self } in
     accepted f s t c.args.cell c.need-need.result c.requires.shape c.requires.allowed.allowed l.need_is c.args.self.now.tables.numbering.tied c.in_ok-check_room.ensures refl refl
     (c.add_all.ensures.after ∙ ap (added_all f.place s.tables) l.list_is)
