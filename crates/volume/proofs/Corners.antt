@@ -1,12 +1,16 @@
--- The eight corners of a cell, told at once where a table has them all. Assumes nothing.
-use Rattle.std.proofs.Common.{◌≡◌, ℕ, ◌+◌, ◌-◌, ◌*◌, ◌≤◌, Bool, true, cond, ◌&&◌, List, [], ◌∷◌, map, get_or, None, Option, sym, ap, ◌∙◌, mul_assoc, mul-add, arith}
+-- The eight corners of a cell, told at once where a volume has them all. Assumes nothing.
+use Rattle.std.proofs.Common.{◌≡◌, ℕ, ◌+◌, ◌-◌, ◌*◌, ◌≤◌, Bool, true, cond, ◌&&◌, List, [], ◌∷◌, map, min, get_or, Some, None, Option, sym, ap, ◌∙◌, mul_assoc, mul-add, add-zero, arith}
 use Rattle.std.proofs.lemmas.Bool.{le-leb}
 use Rattle.grid.specs.declared.geometry.Point.{Point}
 use Rattle.grid.specs.Points.{Sides, ◌⊕◌, offset, sampled}
 use Rattle.grid.specs.Patterns.{corner_flags}
 use Rattle.volume.specs.Blocks.{Inner, entry_inside, block}
 use Rattle.volume.specs.Insides.{answer_inside, inside_at}
-use Rattle.volume.specs.Volumes.{table_place, table_sample, entry_sample}
+use Rattle.grid.specs.Shapes.{sides}
+use Rattle.volume.specs.declared.samples.Density.{Density}
+use Rattle.volume.specs.declared.phantoms.Phantom.{Phantom}
+use Rattle.volume.specs.Kinds.{density_inside, density_stored}
+use Rattle.volume.specs.Volumes.{table_place, table_sample, entry_sample, square_apart, squared_distance, phantom_sample}
 
 abbrev step : ℕ → ℕ → ℕ → Point
 step x y z = record { x = x; y = y; z = z }
@@ -65,3 +69,35 @@ module _ {E K L : Type 0} (stored : E → Option K) (inside : K → L → Bool) 
       ∷ flag 0 1 1 (at + layer + row) (omega arith) (omega arith) (omega arith) (omega (arith, eat, erow, elayer)) i
       ∷ flag 1 1 1 (at + layer + row + 1) (omega arith) (omega arith) (omega arith) (omega (arith, eat, erow, elayer)) i
       ∷ []
+
+-- the flag of one corner of an inner cell of a phantom, by its squared distance
+ball_corner : (v : Phantom) (h : ℕ) (B : Point) → Inner (sides v.shape) B → (x y z far : ℕ) → x ≤ 1 → y ≤ 1 → z ≤ 1 → far ≡ squared_distance v (B ⊕ step x y z) → answer_inside density_inside h (density_stored (65535 - min 65535 far)) ≡ inside_at density_inside h (phantom_sample v) (B ⊕ step x y z)
+ball_corner v h B inner x y z far hx hy hz e =
+    let p = B ⊕ step x y z in
+    ap (λ (n : ℕ). answer_inside density_inside h (density_stored (65535 - min 65535 n))) e
+    ∙ ap (λ (b : Bool). answer_inside density_inside h (cond b (density_stored (65535 - min 65535 (squared_distance v p))) None)) (sym (inner_sampled (sides v.shape) B x y z inner hx hy hz))
+
+-- the squared distance of a corner is the sum of three squares along the axes
+corner_far : (v : Phantom) (B : Point) (x y z a b c : ℕ) → a ≡ square_apart (B.x + x - 1) v.cx → b ≡ square_apart (B.y + y - 1) v.cy → c ≡ square_apart (B.z + z - 1) v.cz → a + b + c ≡ squared_distance v (B ⊕ step x y z)
+unfolding ◌⊕◌
+corner_far v B x y z a b c ea eb ec = λ i. ea i + eb i + ec i
+
+-- the flags of all eight, from the squares at the base and one step further along each axis
+pub ball_corners : (v : Phantom) (h : ℕ) (B : Point) → Inner (sides v.shape) B → (a a' b b' c c' : ℕ) → a ≡ square_apart (B.x - 1) v.cx → a' ≡ square_apart (B.x + 1 - 1) v.cx → b ≡ square_apart (B.y - 1) v.cy → b' ≡ square_apart (B.y + 1 - 1) v.cy → c ≡ square_apart (B.z - 1) v.cz → c' ≡ square_apart (B.z + 1 - 1) v.cz → map (λ far. answer_inside density_inside h (density_stored (65535 - min 65535 far))) ((a + b + c) ∷ (a' + b + c) ∷ (a + b' + c) ∷ (a' + b' + c) ∷ (a + b + c') ∷ (a' + b + c') ∷ (a + b' + c') ∷ (a' + b' + c') ∷ []) ≡ corner_flags (inside_at density_inside h (phantom_sample v)) B
+unfolding corner_flags offset
+ball_corners v h B inner a a' b b' c c' ea ea' eb eb' ec ec' =
+    let x : a ≡ square_apart (B.x + 0 - 1) v.cx = ea ∙ ap (λ (n : ℕ). square_apart (n - 1) v.cx) (sym (add-zero B.x)) in
+    let y : b ≡ square_apart (B.y + 0 - 1) v.cy = eb ∙ ap (λ (n : ℕ). square_apart (n - 1) v.cy) (sym (add-zero B.y)) in
+    let z : c ≡ square_apart (B.z + 0 - 1) v.cz = ec ∙ ap (λ (n : ℕ). square_apart (n - 1) v.cz) (sym (add-zero B.z)) in
+    let flag = ball_corner v h B inner in
+    let far = corner_far v B in
+    λ i.
+    flag 0 0 0 (a + b + c) (omega arith) (omega arith) (omega arith) (far 0 0 0 a b c x y z) i
+    ∷ flag 1 0 0 (a' + b + c) (omega arith) (omega arith) (omega arith) (far 1 0 0 a' b c ea' y z) i
+    ∷ flag 0 1 0 (a + b' + c) (omega arith) (omega arith) (omega arith) (far 0 1 0 a b' c x eb' z) i
+    ∷ flag 1 1 0 (a' + b' + c) (omega arith) (omega arith) (omega arith) (far 1 1 0 a' b' c ea' eb' z) i
+    ∷ flag 0 0 1 (a + b + c') (omega arith) (omega arith) (omega arith) (far 0 0 1 a b c' x y ec') i
+    ∷ flag 1 0 1 (a' + b + c') (omega arith) (omega arith) (omega arith) (far 1 0 1 a' b c' ea' y ec') i
+    ∷ flag 0 1 1 (a + b' + c') (omega arith) (omega arith) (omega arith) (far 0 1 1 a b' c' x eb' ec') i
+    ∷ flag 1 1 1 (a' + b' + c') (omega arith) (omega arith) (omega arith) (far 1 1 1 a' b' c' ea' eb' ec') i
+    ∷ []

@@ -30,7 +30,7 @@ fn place(shape: Shape, p: Point) -> usize
 }
 
 // Whether all corners of the cell at a base have samples.
-fn is_inner(shape: Shape, base: Point) -> bool
+pub(crate) fn is_inner(shape: Shape, base: Point) -> bool
     ensures { result ≡ true → Inner (sides shape) base }
 {
     (1..shape.nx).contains(&base.x)
