@@ -1,4 +1,4 @@
-use Rattle.std.proofs.Common.{◌≡◌, Bool, false, List, sym, ◌∙◌, subst, arith}
+use Rattle.std.proofs.Common.{◌≡◌, Bool, false, List, sym, ◌∙◌, subst, arith, rules}
 use Rattle.grid.specs.declared.geometry.Point.{Point}
 use Rattle.grid.specs.Cells.{tetrahedra}
 use Rattle.topology.specs.Census.{triangle_codes}
@@ -12,7 +12,7 @@ unfolding tetrahedra
 returns-then-not-is_inside g c =
     let inside : Point → Bool = inside_at g.V.Kind.SampleKind.inside c.args.at.now.level (g.V.Volume.sample c.args.at.now.volume.now) in
     let P : Point = c.args.cell.base in
-    let e : inside P ≡ false = sym c.if-not-is_inside.ensures.value in
+    let e : inside P ≡ false = search rules in
     record {
       points = c.default.ensures.points ∙ sym (none_start inside P (tails point_codes) e);
       edges = c.default.ensures.edges ∙ sym (none_start inside P (tails edge_codes) e);
