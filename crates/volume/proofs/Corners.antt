@@ -1,13 +1,12 @@
 -- The eight corners of a cell, told at once where a volume has them all. Assumes nothing.
-use Rattle.std.proofs.Common.{◌≡◌, ℕ, ◌+◌, ◌-◌, ◌*◌, ◌≤◌, Bool, true, cond, ◌&&◌, List, [], ◌∷◌, map, min, get_or, Some, None, Option, sym, ap, ◌∙◌, mul_assoc, mul-add, add-zero, arith}
+use Rattle.std.proofs.Common.{◌≡◌, ℕ, ◌+◌, ◌-◌, ◌*◌, ◌≤◌, Bool, true, cond, ◌&&◌, List, [], ◌∷◌, map, min, get_or, None, Option, sym, ap, ◌∙◌, mul_assoc, mul-add, add-zero, arith}
 use Rattle.std.proofs.lemmas.Bool.{le-leb}
 use Rattle.grid.specs.declared.geometry.Point.{Point}
 use Rattle.grid.specs.Points.{Sides, ◌⊕◌, offset, sampled}
 use Rattle.grid.specs.Patterns.{corner_flags}
+use Rattle.grid.specs.Shapes.{sides}
 use Rattle.volume.specs.Blocks.{Inner, entry_inside, block}
 use Rattle.volume.specs.Insides.{answer_inside, inside_at}
-use Rattle.grid.specs.Shapes.{sides}
-use Rattle.volume.specs.declared.samples.Density.{Density}
 use Rattle.volume.specs.declared.phantoms.Phantom.{Phantom}
 use Rattle.volume.specs.Kinds.{density_inside, density_stored}
 use Rattle.volume.specs.Volumes.{table_place, table_sample, entry_sample, square_apart, squared_distance, phantom_sample}
