@@ -33,6 +33,7 @@ pub trait Field {
 impl<V: Volume> Field for AtLevel<'_, V> {
     ghost field = { λ a. seen V.Kind.SampleKind.inside V.Kind.SampleKind.crossing a.level (sides (V.Volume.shaped a.volume.now)) (V.Volume.sample a.volume.now) };
 
+    #[tactic(auto, using(crate::specs::Bounds::volume_bounded))]
     fn shape(&self) -> Shape {
         self.volume.shape()
     }
