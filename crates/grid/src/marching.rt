@@ -1,5 +1,5 @@
 ghost use Rattle.std.specs.Prelude.{◌≡◌, ℕ, ◌+◌, ◌*◌, ◌<◌, ◌≤◌, Bool, List, [], ◌∷◌, ◌++◌, map, length, take, slice_index_or};
-ghost use Rattle.grid.specs.Points.{◌⊕◌, offset};
+ghost use Rattle.grid.specs.Points.{◌⊕◌, offset, differ};
 ghost use Rattle.grid.specs.Cells.{edge, odd as odd-tet, placed};
 ghost use Rattle.grid.specs.Cases.{low_position, high_position, rows, turned};
 ghost use Rattle.grid.specs.Table.{table_row};
@@ -236,6 +236,13 @@ impl CellEdges {
     }
 }
 
+// Whether one end of an edge is inside and the other is not.
+fn crosses(low: bool, high: bool) -> bool
+    ensures { result ≡ differ low high }
+{
+    low != high
+}
+
 impl Cell {
     // The corner of a code, whose bits 0, 1 and 2 add 1 to x, y and z.
     pub fn corner(self, code: u8) -> Point
@@ -277,7 +284,7 @@ impl Cell {
         for span in SPANS {
             let low = inside[usize::from(span.corner)];
             let high = inside[usize::from(span.corner + span.direction)];
-            if low != high {
+            if crosses(low, high) {
                 crossed.push(GridEdge {
                     low: self.corner(span.corner),
                     direction: span.direction,
